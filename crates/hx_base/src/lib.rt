@@ -1,0 +1,20 @@
+//! The numbers and small types that all crates share.
+#![tactic(auto)]
+
+mod faced;
+mod items;
+mod numbers;
+mod order;
+mod rules;
+mod totals;
+mod what;
+
+pub use faced::Faced;
+pub use items::{Bytes, Items, Name};
+pub use numbers::{
+    ConnId, Face, Millis, NoMemory, OutOfIds, PlaceNo, ServerNo, SessionNo, Span, ThreadNo,
+};
+pub use order::Order;
+pub use rules::{Mode, PoolRules};
+pub use totals::Totals;
+pub use what::{LinkTold, What};

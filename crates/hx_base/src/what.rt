@@ -1,0 +1,17 @@
+//! What a connection's link tells of itself. No value of these types is made: contracts alone speak of them.
+
+use std::collections::LinkedList;
+
+/// The link's count of faults, its tag where it has one, and its bytes where it tells them.
+pub struct What {
+    pub faults: u64,
+    pub tag: Option<u64>,
+    pub told: Option<LinkTold>,
+}
+
+/// The bytes that a link sent and took, and whether it told its end.
+pub struct LinkTold {
+    pub sent: LinkedList<u8>,
+    pub taken: LinkedList<u8>,
+    pub ended: bool,
+}
