@@ -1,2 +1,4 @@
 pub mod CauseLemmas
 pub mod HeadLemmas
+pub mod StayingLemmas
+pub mod WriteLemmas

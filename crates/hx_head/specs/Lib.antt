@@ -1,3 +1,5 @@
 pub mod Heads
 pub mod Reads
 pub mod Causes
+pub mod Staying
+pub mod Writes

@@ -3,11 +3,15 @@
 
 mod answer;
 mod copy;
+mod forward;
 mod head;
+mod lines;
 mod refusal;
 mod request;
+mod staying;
 
 pub use answer::read_answer;
+pub use forward::{NoRoom, forward_answer, forward_request};
 pub use head::{AnswerHead, FieldSpan, HeadRead, RequestHead};
 pub use hx_message::MethodKind;
 pub use request::read_request;
