@@ -9,6 +9,8 @@ mod lines;
 mod refusal;
 mod request;
 mod staying;
+#[cfg(test)]
+mod tests;
 
 pub use answer::read_answer;
 pub use forward::{NoRoom, forward_answer, forward_request};
