@@ -1,3 +1,4 @@
+pub mod AgainLemmas
 pub mod CauseLemmas
 pub mod HeadLemmas
 pub mod StayingLemmas
