@@ -1,16 +1,16 @@
 -- What goes out for a head is a head again, and goes out as it is.
-use Rattle.std.proofs.Common.{◌≡◌, ℕ, ◌+◌, ◌<◌, ◌≤◌, List, [], ◌∷◌, ◌++◌, length, map, filter, reverse, All, cond, Bool, true, false, ◌&&◌, ◌||◌, not, Some, refl, sym, ap, ap₂, subst, ◌∙◌, append_assoc, IsTrue, lit≤, lit<, arith}
+use Rattle.std.proofs.Common.{◌≡◌, ℕ, List, [], ◌∷◌, ◌++◌, length, map, filter, reverse, All, cond, Bool, true, false, ◌&&◌, ◌||◌, not, Some, refl, sym, ap, ap₂, subst, ◌∙◌, append_assoc, IsTrue, lit≤, lit<, arith}
 use Rattle.std.specs.Prelude.{codes, if◌then◌else◌, ◌==◌, Ok, Err}
 use Rattle.std.specs.List.{list_any, flat_map}
 use Rattle.std.specs.Str.{str_eq_ignore_ascii_case, str_to_ascii_lowercase, bytes_eq}
 use Rattle.std.proofs.lemmas.Slice.Eq.{bytes_eq-Decides}
-use Rattle.std.proofs.lemmas.List.{reverse-append, reverse-reverse, append-nil, map-append}
+use Rattle.std.proofs.lemmas.List.{reverse-append, reverse-reverse, append-nil}
 use Rattle.std.proofs.lemmas.List.Elements.{All-head, All-tail, All-map, All-cons, All-append, All-weaker, All-filter, filter-append}
 use Rattle.std.proofs.lemmas.List.Folds.{flat_map-map}
 use Rattle.std.proofs.lemmas.List.Sums.{AllPass-from_list_all}
 use Rattle.std.proofs.lemmas.Grind.{flat_map-append}
-use Rattle.httparse.specs.Ascii.{space, colon, crlf_bytes}
-use Rattle.httparse.specs.Grammar.{AllPass, is_ows, is_token_byte, is_value_byte, skip_ows, trim_ows, IsToken, Field, IsField, crlf, print_field, RequestHead, IsRequestHead, print_request, ReadsRequest, ResponseHead, IsResponseHead, print_response, ReadsResponse, reason_phrase}
+use Rattle.httparse.specs.Ascii.{space, crlf_bytes}
+use Rattle.httparse.specs.Grammar.{AllPass, is_ows, is_token_byte, is_value_byte, skip_ows, trim_ows, IsToken, Field, IsField, crlf, print_field, RequestHead, IsRequestHead, print_request, ResponseHead, IsResponseHead, print_response, reason_phrase}
 use Rattle.httparse.specs.Spans.{name_and_value}
 use Rattle.httparse.proofs.TrimLemmas.{skip_ows_yes, skip_ows_no, AllPass-trim_ows, trim_ows_space}
 use Rattle.hx_message.specs.Fields.{NameAndValue, read_fields, is_named, values_of, parts_of, connection_options, is_of_connection, is_kept, is_optional, goes_on, staying}

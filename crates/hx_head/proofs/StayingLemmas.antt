@@ -1,15 +1,17 @@
 -- The parts of a value, the options of a head, and the fields that go on.
-use Rattle.std.proofs.Common.{◌≡◌, ◌≢◌, ℕ, zero, suc, ◌+◌, ◌<◌, ◌≤◌, List, [], ◌∷◌, ◌++◌, length, take, drop, map, filter, All, get_or, set, cond, Bool, true, false, ◌&&◌, ◌||◌, refl, sym, ap, subst, ◌∙◌, arith, eq-eqb, ne_eqb}
-use Rattle.std.specs.Prelude.{codes}
-use Rattle.std.specs.List.{list_any, flat_map}
-use Rattle.std.specs.Str.{str_eq_ignore_ascii_case}
-use Rattle.std.proofs.lemmas.List.{drop_more}
-use Rattle.std.proofs.lemmas.List.Folds.{list_any-append}
+use Rattle.std.proofs.Common.{◌≡◌, ◌≢◌, ℕ, zero, suc, ◌+◌, ◌<◌, ◌≤◌, List, [], ◌∷◌, length, take, drop, map, filter, get_or, cond, Bool, true, false, ◌&&◌, ◌||◌, refl, sym, ap, ◌∙◌, arith, eq-eqb, ne_eqb, ◌*◌, ◌%◌, ◌^◌}
+use Rattle.std.specs.Prelude.{codes, fold}
+use Rattle.std.specs.List.{list_any}
+use Rattle.std.specs.Char.{to_ascii_lowercase}
+use Rattle.std.specs.Str.{str_eq_ignore_ascii_case, str_to_ascii_lowercase}
+use Rattle.std.proofs.lemmas.Slice.Eq.{bytes_eq-Decides}
+use Rattle.std.proofs.lemmas.List.{drop_more, drop_all}
+use Rattle.std.proofs.lemmas.List.Folds.{list_any-append, fold-map}
 use Rattle.hx_message.specs.Fields.{NameAndValue, with_first, parts_of, is_named, connection_options, is_optional}
 use Rattle.httparse.specs.Grammar.{trim_ows}
 use Rattle.hx_head.specs.declared.head.FieldSpan.{FieldSpan}
 use Rattle.hx_head.specs.Heads.{field_in}
-use Rattle.hx_head.specs.Staying.{lists_name}
+use Rattle.hx_head.specs.Staying.{lists_name, key_of}
 
 -- the first part ends at the first comma
 parts_at : (xs : List ℕ) (i : ℕ) → i < length xs → get_or xs i 0 ≡ 44 → ((k : ℕ) → k < i → get_or xs k 0 ≢ 44)
@@ -85,3 +87,65 @@ pub optional_other : (bytes : List ℕ) (fields : List FieldSpan) (name : List �
     → is_optional (map (field_in bytes) (drop i fields)) name ≡ is_optional (map (field_in bytes) (drop (i + 1) fields)) name
 optional_other bytes fields name i none inside named_is =
     optional_at bytes fields name i none false (lists_name (field_in bytes (get_or fields i none)).1 name) inside named_is refl
+
+-- ---- marks
+
+or_false : (b : Bool) → (b || false) ≡ b
+or_false true = refl
+or_false false = refl
+
+or_assoc : (a b c : Bool) → ((a || b) || c) ≡ (a || (b || c))
+or_assoc true b c = refl
+or_assoc false b c = refl
+
+same_key : (a b : List ℕ) → str_eq_ignore_ascii_case a b ≡ true → key_of a ≡ key_of b
+unfolding key_of
+same_key a b same =
+    let step = λ (key byte : ℕ). (key * 0x9E37_79B9_7F4A_7C15 % 2 ^ 64 + byte) % 2 ^ 64 in
+    let lower : str_to_ascii_lowercase a ≡ str_to_ascii_lowercase b = (bytes_eq-Decides (str_to_ascii_lowercase a) (str_to_ascii_lowercase b)).0 same in
+    sym (fold-map step to_ascii_lowercase 0 a) ∙ ap (fold step 0) lower ∙ fold-map step to_ascii_lowercase 0 b
+
+-- names whose keys differ are different names
+pub other_keys : (a b : List ℕ) → (key_of a ≡ key_of b → ⊥) → str_eq_ignore_ascii_case a b ≡ false
+other_keys a b other = by_test (str_eq_ignore_ascii_case a b) refl
+  where
+    by_test : (t : Bool) → str_eq_ignore_ascii_case a b ≡ t → t ≡ false
+    by_test true same = absurd (other (same_key a b same))
+    by_test false differ = refl
+
+-- what a part of a value adds to a mark
+pub mark_part : (rest name : List ℕ) (i : ℕ) (old new : Bool) → i < length rest → get_or rest i 0 ≡ 44 → ((k : ℕ) → k < i → get_or rest k 0 ≢ 44)
+    → new ≡ (old || str_eq_ignore_ascii_case (trim_ows (take i rest)) name)
+    → (new || lists_name (drop (suc i) rest) name) ≡ (old || lists_name rest name)
+mark_part rest name i old new inside comma before is =
+    ap (λ (t : Bool). t || lists_name (drop (suc i) rest) name) is
+    ∙ or_assoc old (str_eq_ignore_ascii_case (trim_ows (take i rest)) name) (lists_name (drop (suc i) rest) name)
+    ∙ ap (λ (t : Bool). old || t) (sym (lists_at rest name i inside comma before))
+
+pub mark_last : (rest name : List ℕ) (old new : Bool) → ((k : ℕ) → k < length rest → get_or rest k 0 ≢ 44)
+    → new ≡ (old || str_eq_ignore_ascii_case (trim_ows rest) name) → new ≡ (old || lists_name rest name)
+mark_last rest name old new none is = is ∙ ap (λ (t : Bool). old || t) (sym (lists_whole rest name none))
+
+-- what a Connection field adds to a mark, and what another field adds
+pub mark_field : (bytes : List ℕ) (fields : List FieldSpan) (name : List ℕ) (i : ℕ) (none : FieldSpan) (old new : Bool) → i < length fields
+    → is_named (codes "Connection") (field_in bytes (get_or fields i none)) ≡ true
+    → new ≡ (old || lists_name (field_in bytes (get_or fields i none)).1 name)
+    → (new || is_optional (map (field_in bytes) (drop (i + 1) fields)) name) ≡ (old || is_optional (map (field_in bytes) (drop i fields)) name)
+mark_field bytes fields name i none old new inside named is =
+    let value = (field_in bytes (get_or fields i none)).1 in
+    let rest = is_optional (map (field_in bytes) (drop (i + 1) fields)) name in
+    ap (λ (t : Bool). t || rest) is ∙ or_assoc old (lists_name value name) rest
+    ∙ ap (λ (t : Bool). old || t) (sym (optional_at bytes fields name i none true (lists_name value name) inside named refl))
+
+pub mark_other : (bytes : List ℕ) (fields : List FieldSpan) (name : List ℕ) (i : ℕ) (none : FieldSpan) (old : Bool) → i < length fields
+    → is_named (codes "Connection") (field_in bytes (get_or fields i none)) ≡ false
+    → (old || is_optional (map (field_in bytes) (drop (i + 1) fields)) name) ≡ (old || is_optional (map (field_in bytes) (drop i fields)) name)
+mark_other bytes fields name i none old inside named =
+    ap (λ (t : Bool). old || t) (sym (optional_other bytes fields name i none inside named))
+
+-- no field is left
+pub mark_end : (bytes : List ℕ) (fields : List FieldSpan) (name : List ℕ) (i : ℕ) (old all : Bool) → length fields ≤ i
+    → (old || is_optional (map (field_in bytes) (drop i fields)) name) ≡ all → old ≡ all
+mark_end bytes fields name i old all past is =
+    sym (ap (λ (fs : List FieldSpan). old || is_optional (map (field_in bytes) fs) name) (drop_all i fields past)
+    ∙ ap (λ (t : Bool). old || t) (optional_none name) ∙ or_false old) ∙ is

@@ -1,5 +1,5 @@
 -- What goes out for a head is a head again (RFC 9110, section 7.6.1; RFC 9112, sections 3 to 5).
-use Rattle.std.specs.Prelude.{◌≡◌, ℕ, Bool, true, false, List, [], ◌∷◌, ◌++◌, All, if◌then◌else◌, codes}
+use Rattle.std.specs.Prelude.{◌≡◌, Bool, true, false, List, [], ◌∷◌, ◌++◌, All, if◌then◌else◌, codes}
 use Rattle.httparse.specs.Grammar.{RequestHead, ResponseHead, ReadsRequest, ReadsResponse, status_code, reason_phrase}
 use Rattle.hx_message.specs.Fields.{NameAndValue, read_fields, is_named, staying}
 use Rattle.hx_message.specs.Body.{request_kind}

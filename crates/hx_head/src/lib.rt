@@ -7,6 +7,7 @@ mod copy;
 mod forward;
 mod head;
 mod lines;
+mod named;
 mod refusal;
 mod request;
 mod staying;

@@ -1,6 +1,5 @@
 use Rattle.std.proofs.Common.{ℕ, List, length, take, All, sym, ap, subst, ◌∙◌, rules}
 use Rattle.std.proofs.lemmas.List.Elements.{All-filter}
-use Rattle.hx_head.specs.declared.head.FieldSpan.{FieldSpan}
 use Rattle.hx_head.specs.Heads.{IsFieldIn}
 use Rattle.hx_head.specs.Staying.{stays_in}
 use Rattle.hx_head.specs.Writes.{Puts, request_text}

@@ -1,4 +1,4 @@
-use Rattle.std.proofs.Common.{◌≡◌, ℕ, List, ◌<◌, length, [], arith, ap, refl, sym, ◌∙◌, subst, ◌++◌, ◌∷◌, take}
+use Rattle.std.proofs.Common.{ℕ, List, length, [], arith, ap, refl, ◌∙◌, subst}
 use Rattle.hx_head.specs.Writes.{IsWritten, answer_text}
 use Rattle.hx_head.proofs.WriteLemmas.{answer_pieces, answer_length, nothing_written, all_written}
 use Rattle.hx_head.proofs.forward.put_answer.Goals as goal

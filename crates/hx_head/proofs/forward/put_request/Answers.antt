@@ -1,8 +1,5 @@
-use Rattle.std.proofs.Common.{◌≡◌, ℕ, List, ◌<◌, length, [], arith, ap, refl, sym, ◌∙◌, subst, ◌++◌, ◌∷◌, take}
-use Rattle.std.specs.Prelude.{codes}
-use Rattle.httparse.specs.Ascii.{space, crlf_bytes}
-use Rattle.hx_base.specs.Spans.{bytes_in}
-use Rattle.hx_head.specs.Writes.{IsWritten, request_text, lines_of}
+use Rattle.std.proofs.Common.{ℕ, List, length, [], arith, ap, refl, subst}
+use Rattle.hx_head.specs.Writes.{IsWritten, request_text}
 use Rattle.hx_head.proofs.WriteLemmas.{request_pieces, request_length, nothing_written, all_written}
 use Rattle.hx_head.proofs.forward.put_request.Goals as goal
 
