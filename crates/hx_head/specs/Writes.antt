@@ -55,7 +55,8 @@ pub record AnswerIn (bytes : List ℕ) (h : AnswerHead) : Type 0 where
 -- the text by the ranges of the head, with these fields
 unfoldable pub request_text : List ℕ → RequestHead → List FieldSpan → List ℕ
 request_text bytes h fields =
-    bytes_in bytes h.word ++ space ∷ bytes_in bytes h.target ++ codes " HTTP/1.1\r\n" ++ lines_of bytes fields ++ crlf_bytes
+    bytes_in bytes h.word ++ space ∷ bytes_in bytes h.target ++ codes " HTTP/1.1\r\n"
+    ++ lines_of bytes fields ++ crlf_bytes
 
 unfoldable pub answer_text : List ℕ → AnswerHead → List FieldSpan → Bool → List ℕ
 answer_text bytes h fields closing =

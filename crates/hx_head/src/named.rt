@@ -1,13 +1,12 @@
 //! Which fields a Connection option names (RFC 9110, section 7.6.1).
 //!
-//! Each byte of the Connection fields is looked at once. An option meets each name as one number first, so that a head
-//! of many options and many fields costs little more than its length.
-ghost use Rattle.std.specs.Prelude.{◌≡◌, ◌≤◌, ◌<◌, ◌||◌, ℕ, List, false, length, map, reverse, fold, All, slice_index_or};
+//! Each byte of the Connection fields is looked at once. An option meets each name as one number
+//! first, so that it is compared in full only with a name that has its number.
+ghost use Rattle.std.specs.Prelude.{◌≡◌, ◌≤◌, ℕ, List, false, length, reverse, All};
 ghost use Rattle.std.specs.Str.{str_eq_ignore_ascii_case};
 ghost use Rattle.httparse.specs.Grammar.{skip_ows, trim_ows};
-ghost use Rattle.hx_message.specs.Fields.{is_optional};
-ghost use Rattle.hx_head.specs.Heads.{field_limit, IsFieldIn, field_in};
-ghost use Rattle.hx_head.specs.Staying.{key_of, lists_name, name_at, AreKeys, AreMarked};
+ghost use Rattle.hx_head.specs.Heads.{field_limit, IsFieldIn};
+ghost use Rattle.hx_head.specs.Staying.{key_of, lists_name, is_option_of, AreKeys, AreMarked, AddsMarks};
 
 use crate::copy::part;
 use crate::head::FieldSpan;
@@ -87,8 +86,7 @@ fn mark_option(bytes: &[u8], fields: &[FieldSpan], keys: &[u64], option: &[u8], 
     requires keys { AreKeys bytes.now fields.now (length fields.now) keys.now }
     requires keys_room { length fields.now ≤ length keys.now }
     requires room { length fields.now ≤ length named.old }
-    ensures { (k : ℕ) → k < length fields.now → slice_index_or named.new k false
-        ≡ (slice_index_or named.old k false || str_eq_ignore_ascii_case option.now (name_at bytes.now fields.now k)) }
+    ensures { AddsMarks bytes.now fields.now named.old named.new (str_eq_ignore_ascii_case option.now) }
 {
     let key = key_of_name(option);
     for i in 0..fields.len() {
@@ -104,8 +102,7 @@ fn mark_value(bytes: &[u8], fields: &[FieldSpan], keys: &[u64], value: &[u8], na
     requires keys { AreKeys bytes.now fields.now (length fields.now) keys.now }
     requires keys_room { length fields.now ≤ length keys.now }
     requires room { length fields.now ≤ length named.old }
-    ensures { (k : ℕ) → k < length fields.now → slice_index_or named.new k false
-        ≡ (slice_index_or named.old k false || lists_name value.now (name_at bytes.now fields.now k)) }
+    ensures { AddsMarks bytes.now fields.now named.old named.new (lists_name value.now) }
 {
     let mut rest = value;
     while let Some(comma) = rest.iter().position(|b| *b == b',') {
@@ -121,7 +118,7 @@ fn mark_options(bytes: &[u8], fields: &[FieldSpan], named: &mut [bool])
     requires few { length fields.now ≤ field_limit }
     requires room { length fields.now ≤ length named.old }
     requires none { AreMarked bytes.now fields.now named.old (λ name. false) }
-    ensures { AreMarked bytes.now fields.now named.new (is_optional (map (field_in bytes.now) fields.now)) }
+    ensures { AreMarked bytes.now fields.now named.new (is_option_of bytes.now fields.now) }
 {
     let mut keys = [0u64; 100];
     fill_keys(bytes, fields, &mut keys);
@@ -134,7 +131,7 @@ fn mark_options(bytes: &[u8], fields: &[FieldSpan], named: &mut [bool])
 
 fn has_connection(bytes: &[u8], fields: &[FieldSpan]) -> bool
     requires { All (IsFieldIn (length bytes.now)) fields.now }
-    ensures { result ≡ false → (name : List ℕ) → is_optional (map (field_in bytes.now) fields.now) name ≡ false }
+    ensures { result ≡ false → (name : List ℕ) → is_option_of bytes.now fields.now name ≡ false }
 {
     for i in 0..fields.len() {
         if is_same_name(b"Connection", part(bytes, fields[i].name)) {
@@ -150,7 +147,7 @@ pub(crate) fn mark_named(bytes: &[u8], fields: &[FieldSpan], named: &mut [bool])
     requires few { length fields.now ≤ field_limit }
     requires room { length fields.now ≤ length named.old }
     requires none { AreMarked bytes.now fields.now named.old (λ name. false) }
-    ensures { AreMarked bytes.now fields.now named.new (is_optional (map (field_in bytes.now) fields.now)) }
+    ensures { AreMarked bytes.now fields.now named.new (is_option_of bytes.now fields.now) }
 {
     if has_connection(bytes, fields) {
         mark_options(bytes, fields, named);
