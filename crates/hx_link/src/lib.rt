@@ -4,8 +4,10 @@
 mod answers;
 mod clock;
 mod link;
+mod memory_link;
 mod memory_sink;
 mod memory_source;
+mod place;
 mod plan;
 mod source;
 mod whole;
@@ -13,6 +15,7 @@ mod whole;
 pub use answers::{Got, Put};
 pub use clock::{Clock, StillClock};
 pub use link::Link;
+pub use memory_link::MemoryLink;
 pub use memory_sink::MemorySink;
 pub use memory_source::MemorySource;
 pub use plan::{Piece, Plan};
