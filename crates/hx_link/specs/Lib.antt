@@ -9,3 +9,5 @@ pub mod MemoryLinks
 pub mod MemoryCauses
 pub mod Places
 pub mod MemoryLinkView
+pub mod Pipes
+pub mod PipeLends
