@@ -6,9 +6,10 @@ ghost use Rattle.hx_link.specs.MemoryCauses.{MemoryReads, MemoryWrites};
 
 use crate::answers::{Got, Put};
 use crate::link::Link;
+use crate::link_bytes::{LinkBytes, join_pieces};
 use crate::place::{Due, MOST_TAKEN, Place, find_due, give_next, pass_taken};
 use crate::plan::Plan;
-use hx_base::{Millis, ThreadNo};
+use hx_base::{Bytes, Millis, NoMemory, ThreadNo};
 use std::marker::Model;
 
 /// The most bytes that are sent on a link.
@@ -95,6 +96,20 @@ impl MemoryLink {
         ensures plan { KeepsPlan self.now }
     {
         self.starved
+    }
+
+    /// All its bytes. It takes memory only where bytes of more than one piece were taken.
+    ///
+    /// # Errors
+    /// `NoMemory` for want of memory.
+    pub fn into_bytes(self) -> Result<LinkBytes, NoMemory>
+        ensures sent { IfOk result (λ bytes. Some bytes.sent ≡ self.state.sent) }
+        ensures taken { IfOk result (λ bytes. Some bytes.taken ≡ self.state.taken) }
+        ensures plan { KeepsPlan self }
+    {
+        let taken = join_pieces(self.plan.pieces, self.at.taken)?;
+        let sent = Bytes::from_vec(self.sent);
+        Ok(LinkBytes { sent, taken })
     }
 }
 
