@@ -13,6 +13,8 @@ mod pipe;
 mod place;
 mod plan;
 mod source;
+#[cfg(test)]
+mod tests;
 mod whole;
 
 pub use adapters::{Reading, Writing};
