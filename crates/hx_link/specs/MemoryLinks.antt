@@ -35,11 +35,11 @@ new_state plan = record {
 abbrev pub new_link : Plan → MemoryLinkNow
 new_link plan = record { plan = plan; state = new_state plan; calls = 0; starved = false }
 
--- at the moment no piece and no end was due, and no call but a later one fails
+-- at the moment no piece and no end was due, and it isn't the first call that fails
 abbrev pub WaitsFor : Plan → ℕ → ℕ → ℕ → Type 0
 WaitsFor plan taken sent now = (is_ready plan taken sent now ≡ false) × (fails_at plan.fail 1 ≡ false)
 
--- a read at the moment would not have to wait: something is due, or the first call fails
+-- a read at the moment doesn't have to wait: a piece or the end is due, or the first call fails
 abbrev pub IsReady : Plan → ℕ → ℕ → ℕ → Type 0
 IsReady plan taken sent now = (is_ready plan taken sent now ≡ true) ⊎ (plan.fail ≡ Some 1)
 

@@ -18,6 +18,10 @@ pub record IsPlace (pieces : List Piece) (at : Place) : Type 0 where
   pub count : at.taken ≡ length (planned (take at.piece pieces)) + at.offset
   pub inside : at.offset ≤ length (first_bytes (drop at.piece pieces))
 
+-- so many bytes of the next piece further
+abbrev pub moved_on : Place → ℕ → Place
+moved_on at n = record { piece = at.piece; offset = at.offset + n; taken = at.taken + n }
+
 -- the next piece, where there is one, has a byte left
 abbrev pub IsNext : List Piece → Place → Type 0
 IsNext pieces at = at.piece < length pieces → at.offset < length (first_bytes (drop at.piece pieces))

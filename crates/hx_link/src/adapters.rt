@@ -57,7 +57,8 @@ impl<R: Read> Source for Reading<R> {
     }
 }
 
-/// A sink that writes to a writer of std. Each error of the writer is a fault, and so is a write that takes nothing.
+/// A sink that writes to a writer of std. Each error of the writer is a fault, and so is a write
+/// that takes nothing.
 #[derive(Drop)]
 pub struct Writing<W> {
     inner: W,

@@ -36,7 +36,8 @@ impl Pipe {
 
     /// Takes the first bytes, as many as fit, and answers how many.
     pub fn fill(&mut self, bytes: &[u8]) -> usize
-        ensures count { result ≡ min (length bytes.now) (self.old.capacity - length self.old.bytes) }
+        ensures count { result ≡ min (length bytes.now)
+            (self.old.capacity - length self.old.bytes) }
         ensures bytes { self.new ≡ pipe (self.old.bytes ++ take result bytes.now) self.old.capacity }
     {
         self.ring.fill_from_slice(bytes)
@@ -46,7 +47,8 @@ impl Pipe {
     pub fn whole(&mut self) -> &mut [u8]
         ensures* writes_back { sem 𝓛 (lends_whole self.entry result) }
         ensures value { result.now ≡ self.old.bytes }
-        ensures same_len { (ws : List ℕ) → length ws ≡ length self.old.bytes → refill (length self.old.bytes) self.old.bytes ws ≡ ws }
+        ensures same_len { (ws : List ℕ) → length ws ≡ length self.old.bytes
+            → refill (length self.old.bytes) self.old.bytes ws ≡ ws }
     {
         self.ring.make_contiguous()
     }

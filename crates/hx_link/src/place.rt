@@ -3,7 +3,7 @@ ghost use Rattle.std.specs.Prelude.{◌≡◌, ℕ, ◌+◌, ◌-◌, ◌≤◌,
 ghost use Rattle.hx_base.specs.declared.numbers.Millis.{Millis};
 ghost use Rattle.hx_link.specs.Told.{most_bytes};
 ghost use Rattle.hx_link.specs.Planned.{planned, has_come, end_has_come, left_of_piece};
-ghost use Rattle.hx_link.specs.Places.{IsPlace, IsNext, FindsDue};
+ghost use Rattle.hx_link.specs.Places.{IsPlace, IsNext, FindsDue, moved_on};
 
 use crate::plan::{Piece, Plan};
 use hx_base::Millis;
@@ -79,10 +79,12 @@ pub fn give_next(pieces: &[Piece], at: Place, into: &mut [u8]) -> usize
     requires next { IsNext pieces.now at }
     requires there { at.piece < length pieces.now }
     requires most { at.taken ≤ most_bytes }
-    ensures count { result ≡ min (min (left_of_piece pieces.now at.taken) (length into.old)) (most_bytes - at.taken) }
-    ensures given { take (at.taken + result) (planned pieces.now) ≡ take at.taken (planned pieces.now) ++ take result into.new }
+    ensures count { result ≡ min (min (left_of_piece pieces.now at.taken) (length into.old))
+        (most_bytes - at.taken) }
+    ensures given { take (at.taken + result) (planned pieces.now)
+        ≡ take at.taken (planned pieces.now) ++ take result into.new }
     ensures within { at.taken + result ≤ length (planned pieces.now) }
-    ensures place { IsPlace pieces.now (record { piece = at.piece; offset = at.offset + result; taken = at.taken + result }) }
+    ensures place { IsPlace pieces.now (moved_on at result) }
 {
     let p = &pieces[at.piece];
     give(p.bytes.as_slice(), at.offset, MOST_TAKEN - at.taken, into)

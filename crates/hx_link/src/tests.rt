@@ -21,7 +21,7 @@ fn a_pipe_takes_what_fits_and_gives_its_bytes_in_order(rt: HostRuntime) -> Resul
     Ok(())
 }
 
-/// Two bytes at once, none after many, three more at 10 once two were sent, and the end at 20 once three were.
+/// Two bytes at once, none after many, three more at 10 once two were sent, the end at 20 once three were.
 fn some_plan(alloc: Global, room: Option<u64>, fail: Option<u64>) -> Result<Plan, Fail>
     ensures room { IfOk result (λ p. p.room ≡ room) }
     ensures fail { IfOk result (λ p. p.fail ≡ fail) }
