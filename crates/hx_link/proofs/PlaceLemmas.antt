@@ -1,10 +1,9 @@
 -- Where the reads of a link in memory stand in its pieces.
-use Rattle.std.proofs.Common.{◌≡◌, ℕ, ◌+◌, ◌-◌, ◌<◌, ◌≤◌, List, [], ◌∷◌, ◌++◌, length, take, drop, get_or, Option, Some, None, refl, sym, ap, ◌∙◌, arith, rules, length-append, min}
+use Rattle.std.proofs.Common.{◌≡◌, ℕ, ◌+◌, ◌-◌, ◌<◌, ◌≤◌, List, [], ◌∷◌, ◌++◌, length, take, drop, get_or, Option, Some, None, refl, sym, ap, ◌∙◌, arith, rules, length-append}
 use Rattle.std.specs.Prelude.{IsSome, true}
-use Rattle.std.specs.List.{flat_map}
 use Rattle.std.proofs.lemmas.Bool.{le-ltb, lt-ltb}
 use Rattle.std.proofs.lemmas.Grind.{flat_map-append}
-use Rattle.std.proofs.lemmas.List.{take_all, take_more, drop_more, drop_all, take-append-drop, take_at, take-append-le, drop_at, drop-drop, drop-append-le, append-nil, length-drop, length-take}
+use Rattle.std.proofs.lemmas.List.{take_all, take_more, drop_more, drop_all, take-append-drop, take-append-le, drop_at, drop-drop, drop-append-le, append-nil, length-drop}
 use Rattle.hx_base.specs.declared.numbers.Millis.{Millis}
 use Rattle.hx_link.specs.declared.plan.Piece.{Piece}
 use Rattle.hx_link.specs.declared.plan.Plan.{Plan}

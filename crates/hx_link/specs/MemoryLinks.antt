@@ -1,5 +1,5 @@
 -- What a link in memory is to a contract, and what always holds of it.
-use Rattle.std.specs.Prelude.{◌≡◌, ◌⊎◌, ℕ, ◌≤◌, Bool, true, false, List, [], length, take, Option, Some, None, IsSome}
+use Rattle.std.specs.Prelude.{◌≡◌, ◌⊎◌, ℕ, ◌≤◌, Bool, true, false, [], length, take, Some, None, IsSome}
 use Rattle.hx_link.specs.Told.{LinkState}
 use Rattle.hx_link.specs.Planned.{planned, is_ready, fails_at}
 use Rattle.hx_link.specs.declared.plan.Plan.{Plan}

@@ -167,7 +167,6 @@ impl Link for MemoryLink {
         ensures counted { IsCounted self.old.state → IsCounted self.new.state }
         ensures answers { MemoryWrites self.old self.new (length bytes.now) result }
     {
-        let _moment = now;
         self.calls = self.calls.saturating_add(1);
         let left = MOST_SENT - self.sent.len();
         if fails(self.plan.fail, self.calls) || left == 0 || self.starved {
@@ -188,7 +187,7 @@ impl Link for MemoryLink {
         }
     }
 
-    /// It changes nothing.
+    /// Changes nothing.
     fn finish(&mut self)
         ensures same { self.new ≡ self.old }
     {}

@@ -1,4 +1,4 @@
-use Rattle.std.proofs.Common.{arith, length, ◌≤◌, ◌≡◌, ◌-◌, take, drop, ap, ◌∙◌, List, ℕ}
+use Rattle.std.proofs.Common.{arith, length, ◌≤◌, ◌-◌, take, drop, ap, ◌∙◌, List, ℕ}
 use Rattle.hx_link.specs.Places.{first_bytes}
 use Rattle.hx_link.proofs.PlaceLemmas.{first_is, gives_more, still_within, left_there}
 use Rattle.hx_link.proofs.place.give_next.Goals as goal
