@@ -1,0 +1,3 @@
+pub mod Carriage
+pub mod Tiles
+pub mod Truth
