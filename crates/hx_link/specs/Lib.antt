@@ -4,3 +4,10 @@ pub mod Links
 pub mod Whole
 pub mod MemorySources
 pub mod MemoryViews
+pub mod Planned
+pub mod MemoryLinks
+pub mod MemoryCauses
+pub mod Places
+pub mod MemoryLinkView
+pub mod Pipes
+pub mod PipeLends

@@ -1,6 +1,6 @@
 -- What a source, a sink and a link tell of themselves. Contracts alone speak of it.
 -- Counts of faults and of waits are kept in a u64 and stand still at its end.
-use Rattle.std.specs.Prelude.{◌≡◌, ℕ, ◌-◌, ◌^◌, ◌≤◌, Bool, List, length, Option, IfSome}
+use Rattle.std.specs.Prelude.{◌≡◌, ℕ, ◌-◌, ◌^◌, ◌≤◌, Bool, false, List, length, Option, None, IfSome}
 use Rattle.hx_base.specs.Counts.{Rose}
 
 pub record SourceState : Type 0 where
@@ -51,3 +51,10 @@ pub record IsCounted (l : LinkState) : Type 0 where
 -- the most bytes that are taken of a link, and the most that are sent on it
 abbrev pub most_bytes : ℕ
 most_bytes = 2 ^ 63 - 1
+
+-- a source and a sink that tell nothing of their bytes, before their first call
+abbrev pub untold_source : SourceState
+untold_source = record { faults = 0; left = None; told_end = false }
+
+abbrev pub untold_sink : SinkState
+untold_sink = record { faults = 0; taken = None }

@@ -1,20 +1,31 @@
 //! The outside as traits with counted faults and waits, and its implementations in memory.
 #![tactic(auto)]
 
+mod adapters;
 mod answers;
 mod clock;
 mod link;
+mod link_bytes;
+mod memory_link;
 mod memory_sink;
 mod memory_source;
+mod pipe;
+mod place;
 mod plan;
 mod source;
+#[cfg(test)]
+mod tests;
 mod whole;
 
+pub use adapters::{Reading, Writing};
 pub use answers::{Got, Put};
 pub use clock::{Clock, StillClock};
 pub use link::Link;
+pub use link_bytes::LinkBytes;
+pub use memory_link::MemoryLink;
 pub use memory_sink::MemorySink;
 pub use memory_source::MemorySource;
+pub use pipe::Pipe;
 pub use plan::{Piece, Plan};
 pub use source::{Sink, Source};
 pub use whole::{ReadFault, WriteFault, read_all, write_all};

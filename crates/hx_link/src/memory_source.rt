@@ -27,7 +27,8 @@ impl Model for MemorySource {
 
     ghost view = { source_view };
 
-    ghost invariant = { λ s. (s.at ≤ length s.bytes.items) × (s.ended ≡ true → length s.bytes.items ≤ s.at) };
+    ghost invariant = { λ s. (s.at ≤ length s.bytes.items)
+        × (s.ended ≡ true → length s.bytes.items ≤ s.at) };
 }
 
 impl MemorySource {

@@ -2,7 +2,8 @@
 
 use hx_base::{Bytes, Items, Millis, ServerNo};
 
-/// Bytes that are there once the moment has come, so many bytes were sent, and the pieces before were taken.
+/// Bytes that are there once the moment has come, so many bytes were sent on the link, and the
+/// pieces before were taken.
 #[derive(Drop)]
 pub struct Piece {
     pub at: Millis,

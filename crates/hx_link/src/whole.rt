@@ -28,8 +28,10 @@ const CHUNK: usize = 4096;
 /// `Fault` where the source failed, `NoMemory` for want of memory.
 pub fn read_all<S: Source>(alloc: Global, source: &mut S, most: usize) -> Result<Vec<u8>, ReadFault>
     requires most { most < 2 ^ 32 }
-    ensures reads { IfOk result (λ text. ReadsAll most (S.state source.old) (S.state source.new) text.items) }
-    ensures faulted { IsErrOf result ReadFault.Fault → Rose (S.state source.old).faults (S.state source.new).faults }
+    ensures reads { IfOk result
+        (λ text. ReadsAll most (S.state source.old) (S.state source.new) text.items) }
+    ensures faulted { IsErrOf result ReadFault.Fault
+        → Rose (S.state source.old).faults (S.state source.new).faults }
 {
     let mut text = Vec::new(alloc);
     let mut buffer = [0u8; CHUNK];

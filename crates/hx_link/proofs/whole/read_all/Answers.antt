@@ -1,4 +1,4 @@
-use Rattle.std.proofs.Common.{arith, rules, ℕ, length, take, ◌≡◌, ◌++◌, ◌+◌, ap, ◌∙◌, length-append, length-take, sym}
+use Rattle.std.proofs.Common.{arith, ℕ, length, take, ◌≡◌, ◌++◌, ◌+◌, ap, ◌∙◌, length-append, length-take}
 use Rattle.std.proofs.lemmas.List.{length-drop}
 use Rattle.std.proofs.lemmas.Grind.{common_steps}
 use Rattle.hx_link.specs.Told.{SourceState}
