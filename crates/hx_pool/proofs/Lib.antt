@@ -1,0 +1,6 @@
+pub mod Histories
+pub mod Tables
+pub mod Holding
+pub mod Calls
+pub mod OneHistory
+pub mod Purges
