@@ -4,3 +4,5 @@ pub mod Holding
 pub mod Calls
 pub mod OneHistory
 pub mod Purges
+pub mod Journals
+pub mod Exchanges
