@@ -6,3 +6,5 @@ pub mod OneHistory
 pub mod Purges
 pub mod Journals
 pub mod Exchanges
+pub mod Resting
+pub mod Coverage
