@@ -1,9 +1,7 @@
 -- The order of a thread's places comes to every place, and what a purge that ended has done.
-use Rattle.std.proofs.Common.{◌≡◌, ℕ, ◌+◌, ◌-◌, ◌*◌, ◌/◌, ◌%◌, ◌<◌, ◌≤◌, List, [], ◌++◌, refl, sym, ap, ◌∙◌, subst, arith, inl, inr, ◌⊎◌, ⊎_elim}
+use Rattle.std.proofs.Common.{◌≡◌, ℕ, ◌+◌, ◌-◌, ◌*◌, ◌/◌, ◌%◌, ◌<◌, ◌≤◌, List, ◌++◌, ap, ◌∙◌, subst, arith, inl, inr, ◌⊎◌, ⊎_elim}
 use Rattle.std.proofs.Math.Nat.{mod-eq_of_lt, add-mod_right}
-use Rattle.std.proofs.lemmas.List.{append-nil}
 use Rattle.hx_base.specs.declared.numbers.ThreadNo.{ThreadNo}
-use Rattle.hx_base.specs.declared.numbers.PlaceNo.{PlaceNo}
 use Rattle.hx_pool.specs.declared.budget.Quota.{Quota}
 use Rattle.hx_pool.specs.declared.entries.Note.{Note}
 use Rattle.hx_pool.specs.SeatView.{About, History}
@@ -22,8 +20,8 @@ pub nth_onto : (t : ThreadNo) (threads row p : ℕ) → t.0 < threads → row < 
     → (i : ℕ) × (i < 64 * threads) × (nth_place t threads i ≡ place_of row p)
 nth_onto t threads row p lt lr lp =
     let at : (k : ℕ) → (t.0 + k ≡ row) ⊎ (t.0 + k ≡ row + threads) → k < threads → (i : ℕ) × (i < 64 * threads) × (nth_place t threads i ≡ place_of row p) =
-        λ k e low. let q : (64 * k + p) / 64 ≡ k = omega arith in let r : (64 * k + p) % 64 ≡ p = omega arith in
-        (64 * k + p, omega arith, ap (λ x. place_of ((t.0 + x) % threads) ((64 * k + p) % 64)) q ∙ (ap (λ x. place_of ((t.0 + k) % threads) x) r ∙ ap (λ x. place_of x p) (row_after t.0 k threads row e lr))) in
+    λ k e low. let q : (64 * k + p) / 64 ≡ k = omega arith in let r : (64 * k + p) % 64 ≡ p = omega arith in
+    (64 * k + p, omega arith, ap (λ x. place_of ((t.0 + x) % threads) ((64 * k + p) % 64)) q ∙ (ap (λ x. place_of ((t.0 + k) % threads) x) r ∙ ap (λ x. place_of x p) (row_after t.0 k threads row e lr))) in
     ⊎_elim (λ (h : t.0 ≤ row). at (row - t.0) (inl (omega arith)) (omega arith)) (λ (h : row < t.0). at (row + threads - t.0) (inr (omega arith)) (omega arith)) (le_cases t.0 row)
 
 -- what covers the whole order covers the board
@@ -39,5 +37,5 @@ quota_used old new q r c intervals es added lt m p u =
     ⊎_elim
     (λ s. let z : r.left ≡ q.left = ap (λ (k : Quota). k.left) s.1 in let y = s.0 in inl (omega arith))
     (λ s. let seen = s.1.seen in
-        let all : AllCovered old.about (es ++ added) = covered_all old.about (es ++ added) lt (λ i l. w.covered i (omega arith)) in
-        ⊎_elim (λ (h : quota_of c intervals ≤ takes_of (es ++ added)). inl (omega arith)) (λ (h : takes_of (es ++ added) < quota_of c intervals). inr (h, all)) (le_cases (quota_of c intervals) (takes_of (es ++ added)))) p
+    let all : AllCovered old.about (es ++ added) = covered_all old.about (es ++ added) lt (λ i l. w.covered i (omega arith)) in
+    ⊎_elim (λ (h : quota_of c intervals ≤ takes_of (es ++ added)). inl (omega arith)) (λ (h : takes_of (es ++ added) < quota_of c intervals). inr (h, all)) (le_cases (quota_of c intervals) (takes_of (es ++ added)))) p

@@ -8,3 +8,5 @@ pub mod Journals
 pub mod Exchanges
 pub mod Resting
 pub mod Coverage
+pub mod Telling
+pub mod Rows

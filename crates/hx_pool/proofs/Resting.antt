@@ -1,11 +1,9 @@
 -- The number of resting connections in a table is that of the places which hold one.
-use Rattle.std.proofs.Common.{◌≡◌, ◌≢◌, ℕ, zero, suc, ◌+◌, ◌-◌, ◌*◌, ◌<◌, ◌≤◌, List, [], ◌∷◌, ◌⊎◌, ⊎_elim, sym, refl, ap, ◌∙◌, subst, arith, Option, Some, None, IfSome}
+use Rattle.std.proofs.Common.{◌≡◌, ℕ, zero, suc, ◌+◌, ◌*◌, ◌<◌, ◌≤◌, List, [], ◌∷◌, sym, refl, ap, ◌∙◌, arith, Option}
 use native.Mathlib.Decide.{ℕ_discrete, dec_lt}
 use mathlib.Core.Logic.{dite}
-use Rattle.hx_base.specs.declared.numbers.PlaceNo.{PlaceNo}
 use Rattle.hx_base.specs.declared.numbers.Face.{Face}
 use Rattle.hx_base.specs.declared.what.What.{What}
-use Rattle.hx_base.specs.declared.rules.PoolRules.{PoolRules}
 use Rattle.hx_pool.specs.declared.entries.Entry.{Entry}
 use Rattle.hx_pool.specs.declared.entries.Entry.TheVariants.{Open, Park, Take, Free, Close, Look, Up, Down, Count, Gate, SetGate, Round}
 use Rattle.hx_pool.specs.declared.entries.Note.{Note}
@@ -81,8 +79,8 @@ counted_entry threads T w (Free t place) low need c =
     let u : ℕ = spot_no place in
     let was : holds_one (T.spots u) ≡ 0 = ap holds_one need.1 in
     let same : resting_in (put T.spots u Vacant) (64 * threads) ≡ resting_in T.spots (64 * threads) = dite (dec_lt u (64 * threads))
-        (λ l. let sum = in_put (64 * threads) T.spots u Vacant l in omega arith)
-        (λ n. in_far (64 * threads) T.spots u Vacant (omega arith)) in record {
+    (λ l. let sum = in_put (64 * threads) T.spots u Vacant l in omega arith)
+    (λ n. in_far (64 * threads) T.spots u Vacant (omega arith)) in record {
       inside = put_inside threads T.spots u Vacant (λ f e. absurd (cc)) c.inside;
       resting_is = let is = c.resting_is in omega arith;
     }
