@@ -10,3 +10,4 @@ pub mod Resting
 pub mod Coverage
 pub mod Telling
 pub mod Rows
+pub mod Samples
