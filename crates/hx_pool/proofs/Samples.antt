@@ -10,7 +10,7 @@ use Rattle.hx_pool.specs.declared.entries.Entry.TheVariants.{Open, Park, Take, F
 use Rattle.hx_pool.specs.declared.entries.Note.{Note}
 use Rattle.hx_pool.specs.Table.{Conn, HeldBy, Closed, Spot, Holds}
 use Rattle.hx_pool.specs.History.{plain, table_after, IsLegal}
-use Rattle.hx_pool.specs.Rules.{KeepsMode, KeepsLimit}
+use Rattle.hx_pool.specs.Rules.{allows, KeepsMode, KeepsLimit}
 use Rattle.hx_pool.specs.Purge.{quota_of}
 
 abbrev by : ℕ → ThreadNo
@@ -188,6 +188,10 @@ first_under_aggressive k = let e = k.1.1.1.1.0 (omega arith) in cc
 rests_past_the_limit : ¬ KeepsLimit (record { mode = Safe; max = Some 1; low = 0; delay = record { 0 = 5000 } }) two_parked
 rests_past_the_limit k = let e = k.1.1.1.0 in omega arith
 
--- quotas: of 5 resting 3 go, then of 2 one, then of 1 one; of 5 after four intervals all 5 go
-quotas : (quota_of 5 1 ≡ 3) × (quota_of 2 1 ≡ 1) × (quota_of 1 1 ≡ 1) × (quota_of 5 4 ≡ 5) × (quota_of 5 64 ≡ 5) × (quota_of 0 1 ≡ 0)
-quotas = (refl, refl, refl, refl, refl, refl)
+-- of 5 resting 3 go, then of 2 one, then of 1 one; after four intervals at once all 5 go; of 7 four, and after two six
+quotas : (quota_of 5 1 ≡ 3) × (quota_of 2 1 ≡ 1) × (quota_of 1 1 ≡ 1) × (quota_of 5 4 ≡ 5) × (quota_of 7 1 ≡ 4) × (quota_of 7 2 ≡ 6) × (quota_of 0 3 ≡ 0)
+quotas = (refl, refl, refl, refl, refl, refl, refl)
+
+-- which uses a request may go over
+uses_allowed : (allows Safe true 9 ≡ false) × (allows Aggressive true 1 ≡ false) × (allows Aggressive true 2 ≡ true) × (allows Never false 2 ≡ false)
+uses_allowed = (refl, refl, refl, refl)
