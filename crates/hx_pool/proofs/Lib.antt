@@ -11,3 +11,4 @@ pub mod Coverage
 pub mod Telling
 pub mod Rows
 pub mod Samples
+pub mod Owning
