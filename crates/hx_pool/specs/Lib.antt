@@ -13,3 +13,4 @@ pub mod Drain
 pub mod Totals
 pub mod Wants
 pub mod Journal
+pub mod Exchange

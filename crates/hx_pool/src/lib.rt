@@ -5,6 +5,8 @@ mod board;
 mod budget;
 mod choice;
 mod entries;
+mod exchange;
+mod journal;
 mod refusals;
 mod seat;
 
@@ -12,5 +14,7 @@ pub use board::BoardTerms;
 pub use budget::Quota;
 pub use choice::allowed;
 pub use entries::{Entry, Found, LastMarks, Note};
+pub use exchange::{Dials, one_exchange};
+pub use journal::JournalSeat;
 pub use refusals::{NoPark, NoneOver, Unparked};
 pub use seat::{HasHistory, Seat};

@@ -1,0 +1,14 @@
+pub mod Histories
+pub mod Tables
+pub mod Holding
+pub mod Calls
+pub mod OneHistory
+pub mod Purges
+pub mod Journals
+pub mod Exchanges
+pub mod Resting
+pub mod Coverage
+pub mod Telling
+pub mod Rows
+pub mod Samples
+pub mod Owning
