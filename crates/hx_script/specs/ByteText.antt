@@ -58,3 +58,11 @@ pub record Quotes (text bytes : List ℕ) : Type 0 where
   pub each : All IsLetter letters
   pub is : text ≡ 34 ∷ flat_map print_letter letters ++ 34 ∷ []
   pub stands : bytes ≡ map byte_of letters
+
+-- a byte text of these bytes stands at the front of the text, and the rest follows it
+abbrev pub BeginsQuoted : List ℕ → List ℕ → List ℕ → Type 0
+BeginsQuoted text bytes rest = (q : List ℕ) × Quotes q bytes × (text ≡ q ++ rest)
+
+-- no byte text stands at the front
+abbrev pub NoQuoted : List ℕ → Type 0
+NoQuoted text = (bytes rest : List ℕ) → BeginsQuoted text bytes rest → ⊥

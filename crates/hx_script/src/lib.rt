@@ -9,7 +9,9 @@ mod quoted;
 mod record_lines;
 mod transcript;
 
-pub use hx_record::{Carried, ClientBytes, ConnBytes, CutCause, Kind, Left, LeftCause, Served, Told};
+pub use hx_record::{
+    Carried, ClientBytes, ConnBytes, CutCause, Kind, Left, LeftCause, Served, Told,
+};
 pub use print::print_transcript;
-pub use quoted::read_quoted;
+pub use quoted::{one_byte_text, read_quoted};
 pub use transcript::{ServerPart, Transcript};

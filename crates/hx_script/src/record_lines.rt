@@ -55,7 +55,12 @@ fn put_ranges(out: &mut Vec<u8>, c: Carried, ask: Span, gave: Span) -> Result<()
 }
 
 #[tactic(auto, unfolding(crate::specs::RecordLines::carried_text))]
-fn put_carried(out: &mut Vec<u8>, servers: &[ServerPart], s: Served, c: Carried) -> Result<(), NoMemory>
+fn put_carried(
+    out: &mut Vec<u8>,
+    servers: &[ServerPart],
+    s: Served,
+    c: Carried,
+) -> Result<(), NoMemory>
     ensures { OnOk result (out.new.items ≡ out.old.items ++ carried_text servers.now c s.ask s.gave) }
 {
     put_conn(out, servers, c.server, c.id)?;
@@ -67,7 +72,11 @@ fn put_carried(out: &mut Vec<u8>, servers: &[ServerPart], s: Served, c: Carried)
 fn cut_closing_word(closing: bool) -> &'static [u8]
     ensures { result.now ≡ cut_closing_text closing }
 {
-    if closing { b" close-yes " } else { b" close-no " }
+    if closing {
+        b" close-yes "
+    } else {
+        b" close-no "
+    }
 }
 
 fn cut_word(why: CutCause) -> &'static [u8]
@@ -94,11 +103,14 @@ fn put_begin(out: &mut Vec<u8>, s: Served) -> Result<(), NoMemory>
     put(out, b" ")
 }
 
-fn put_passed(out: &mut Vec<u8>, servers: &[ServerPart], s: Served, c: Carried) -> Result<(), NoMemory>
-    ensures {
-        OnOk result (out.new.items ≡ out.old.items ++ codes "pass " ++ begin_text s
-            ++ carried_text servers.now c s.ask s.gave ++ closing_text c.closing)
-    }
+fn put_passed(
+    out: &mut Vec<u8>,
+    servers: &[ServerPart],
+    s: Served,
+    c: Carried,
+) -> Result<(), NoMemory>
+    ensures { OnOk result (out.new.items ≡ out.old.items ++ codes "pass " ++ begin_text s
+        ++ carried_text servers.now c s.ask s.gave ++ closing_text c.closing) }
 {
     put(out, b"pass ")?;
     put_begin(out, s)?;
@@ -113,10 +125,8 @@ fn put_cut(
     c: Carried,
     why: CutCause,
 ) -> Result<(), NoMemory>
-    ensures {
-        OnOk result (out.new.items ≡ out.old.items ++ codes "cut " ++ begin_text s
-            ++ carried_text servers.now c s.ask s.gave ++ cut_closing_text c.closing ++ cut_text why ++ codes "\n")
-    }
+    ensures { OnOk result (out.new.items ≡ out.old.items ++ codes "cut " ++ begin_text s
+        ++ carried_text servers.now c s.ask s.gave ++ cut_closing_text c.closing ++ cut_text why ++ codes "\n") }
 {
     put(out, b"cut ")?;
     put_begin(out, s)?;
@@ -127,10 +137,8 @@ fn put_cut(
 }
 
 fn put_own(out: &mut Vec<u8>, s: Served, status: u16) -> Result<(), NoMemory>
-    ensures {
-        OnOk result (out.new.items ≡ out.old.items ++ codes "own " ++ begin_text s ++ decimal status
-            ++ codes " ask " ++ span_text s.ask ++ codes " gave " ++ span_text s.gave ++ codes "\n")
-    }
+    ensures { OnOk result (out.new.items ≡ out.old.items ++ codes "own " ++ begin_text s ++ decimal status
+        ++ codes " ask " ++ span_text s.ask ++ codes " gave " ++ span_text s.gave ++ codes "\n") }
 {
     put(out, b"own ")?;
     put_begin(out, s)?;
@@ -165,10 +173,8 @@ fn cause_word(cause: LeftCause) -> &'static [u8]
 }
 
 fn put_left(out: &mut Vec<u8>, l: Left) -> Result<(), NoMemory>
-    ensures {
-        OnOk result (out.new.items ≡ out.old.items ++ codes "left " ++ who l.worker l.session
-            ++ codes " " ++ span_text l.ask ++ codes " " ++ cause_text l.cause ++ codes "\n")
-    }
+    ensures { OnOk result (out.new.items ≡ out.old.items ++ codes "left " ++ who l.worker l.session
+        ++ codes " " ++ span_text l.ask ++ codes " " ++ cause_text l.cause ++ codes "\n") }
 {
     put(out, b"left ")?;
     put_who(out, l.worker, l.session)?;
