@@ -25,7 +25,8 @@ fn put_servers(out: &mut Vec<u8>, servers: &[ServerPart]) -> Result<(), NoMemory
 }
 
 fn put_records(out: &mut Vec<u8>, servers: &[ServerPart], records: &[Told]) -> Result<(), NoMemory>
-    ensures { OnOk result (out.new.items ≡ out.old.items ++ flat_map (record_line servers.now) records.now) }
+    ensures { OnOk result (out.new.items ≡ out.old.items
+        ++ flat_map (record_line servers.now) records.now) }
 {
     for told in records {
         put_record(out, servers, *told)?;
@@ -43,7 +44,8 @@ fn put_clients(out: &mut Vec<u8>, clients: &[ClientBytes]) -> Result<(), NoMemor
 }
 
 fn put_conns(out: &mut Vec<u8>, servers: &[ServerPart], conns: &[ConnBytes]) -> Result<(), NoMemory>
-    ensures { OnOk result (out.new.items ≡ out.old.items ++ flat_map (conn_lines servers.now) conns.now) }
+    ensures { OnOk result (out.new.items ≡ out.old.items
+        ++ flat_map (conn_lines servers.now) conns.now) }
 {
     for conn in conns {
         put_conn_bytes(out, servers, conn)?;

@@ -100,7 +100,8 @@ fn step_of(mode: ReadMode, b: u8) -> Step
 }
 
 fn read_body(alloc: Global, text: &[u8]) -> Result<Option<(Vec<u8>, &[u8])>, NoMemory>
-    ensures { IfOk result (λ o. option_map (λ x. (x.0.items, x.1.now)) o ≡ read_from InText text.now) }
+    ensures { IfOk result (λ o. option_map (λ x. (x.0.items, x.1.now)) o
+        ≡ read_from InText text.now) }
 {
     let mut bytes = Vec::new(alloc);
     let mut mode = ReadMode::InText;
