@@ -7,6 +7,8 @@ mod pieces;
 mod print;
 mod quoted;
 mod record_lines;
+#[cfg(test)]
+mod tests;
 mod transcript;
 
 pub use hx_record::{

@@ -107,7 +107,7 @@ fn put_sums(out: &mut Vec<u8>, t: &Transcript) -> Result<(), NoMemory>
     put(out, b"end\n")
 }
 
-/// The text of the transcript.
+/// The printed form of the transcript, version 1. The one error is want of memory.
 pub fn print_transcript(alloc: Global, t: &Transcript) -> Result<Vec<u8>, NoMemory>
     ensures { IfOk result (λ text. Spells text.items t.now) }
 {

@@ -128,7 +128,8 @@ fn read_front(alloc: Global, text: &[u8]) -> Result<Option<(Vec<u8>, &[u8])>, No
     }
 }
 
-/// The bytes of the byte text at the front, and what follows it.
+/// The bytes of the byte text at the front, and what follows it; None where none is there.
+/// The one error is want of memory.
 pub fn read_quoted(alloc: Global, text: &[u8]) -> Result<Option<(Vec<u8>, &[u8])>, NoMemory>
     ensures reads { IfOk result (λ o. MatchOption o (NoQuoted text.now)
         (λ x. BeginsQuoted text.now x.0.items x.1.now)) }
