@@ -1,9 +1,8 @@
 -- Reading a byte text, one byte after the other; what is read is spelled so, and what is spelled so is read.
-use Rattle.std.proofs.Common.{◌≡◌, ℕ, ◌+◌, ◌-◌, ◌*◌, ◌<◌, ◌≤◌, Bool, true, false, cond, List, [], ◌∷◌, ◌++◌, length, map, drop, get_or, Option, Some, None, All, refl, sym, ap, subst, ◌∙◌, append_assoc, arith, inl, inr, rules}
-use Rattle.std.specs.List.{flat_map}
+use Rattle.std.proofs.Common.{◌≡◌, ℕ, ◌+◌, ◌<◌, ◌≤◌, List, [], ◌∷◌, ◌++◌, length, drop, get_or, Some, None, refl, sym, ap, ◌∙◌, append_assoc}
 use Rattle.std.proofs.lemmas.List.{drop_more, drop_all, append-nil}
 use Rattle.hx_script.specs.declared.quoted.ReadMode.{ReadMode}
-use Rattle.hx_script.specs.declared.quoted.ReadMode.TheVariants.{InText, AfterBackslash, AfterX, AfterDigit}
+use Rattle.hx_script.specs.declared.quoted.ReadMode.TheVariants.{InText}
 use Rattle.hx_script.specs.declared.quoted.Step.{Step}
 use Rattle.hx_script.specs.declared.quoted.Step.TheVariants.{End, Bad, Byte, Mode}
 use Rattle.hx_script.specs.QuotedReading.{Read, step, with_front, after, read_from}

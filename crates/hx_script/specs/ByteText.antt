@@ -1,5 +1,5 @@
--- Byte texts: bytes between double quotes. A byte may be written in more than one way, and one of them is
--- its spelling: \x stands only for a byte that has no other form.
+-- Byte texts: bytes between double quotes. A byte may be written in more than one way, and one of
+-- them is its spelling: \x stands only for a byte that has no other form.
 use Rattle.std.specs.Prelude.{◌≡◌, ◌⊎◌, ℕ, ◌+◌, ◌*◌, ◌/◌, ◌%◌, ◌<◌, Bool, true, ◌&&◌, ◌||◌, not, List, [], ◌∷◌, ◌++◌, map, if◌then◌else◌, ◌==◌, nat_le, nat_lt, All, codes, ⊤}
 use Rattle.std.specs.List.{flat_map}
 
@@ -31,6 +31,7 @@ pub data Letter : Type 0 where
 abbrev pub is_plain : ℕ → Bool
 is_plain b = nat_le 32 b && nat_le b 126 && not (b == 34) && not (b == 92)
 
+-- the forms that a byte may have: marks are escaped, and digits are of base 16
 abbrev pub IsLetter : Letter → Type 0
 IsLetter (plain b) = is_plain b ≡ true
 IsLetter (escape b) = (b ≡ 34) ⊎ (b ≡ 92)
@@ -38,6 +39,7 @@ IsLetter cr = ⊤
 IsLetter lf = ⊤
 IsLetter (hex h l) = (h < 16) × (l < 16)
 
+-- the text of a letter
 abbrev pub print_letter : Letter → List ℕ
 print_letter (plain b) = b ∷ []
 print_letter (escape b) = 92 ∷ b ∷ []
@@ -45,6 +47,7 @@ print_letter cr = 92 ∷ 114 ∷ []
 print_letter lf = 92 ∷ 110 ∷ []
 print_letter (hex h l) = 92 ∷ 120 ∷ hex_digit h ∷ hex_digit l ∷ []
 
+-- the byte that a letter stands for
 abbrev pub byte_of : Letter → ℕ
 byte_of (plain b) = b
 byte_of (escape b) = b
@@ -58,3 +61,11 @@ pub record Quotes (text bytes : List ℕ) : Type 0 where
   pub each : All IsLetter letters
   pub is : text ≡ 34 ∷ flat_map print_letter letters ++ 34 ∷ []
   pub stands : bytes ≡ map byte_of letters
+
+-- a byte text of these bytes stands at the front of the text, and the rest follows it
+abbrev pub BeginsQuoted : List ℕ → List ℕ → List ℕ → Type 0
+BeginsQuoted text bytes rest = (q : List ℕ) × Quotes q bytes × (text ≡ q ++ rest)
+
+-- no byte text stands at the front
+abbrev pub NoQuoted : List ℕ → Type 0
+NoQuoted text = (bytes rest : List ℕ) → BeginsQuoted text bytes rest → ⊥

@@ -19,9 +19,11 @@ who t n = decimal t.0 ++ codes "." ++ decimal n.0
 abbrev pub place_text : PlaceNo → List ℕ
 place_text p = decimal p.row ++ codes ":" ++ decimal p.place
 
+-- the list that a take was made from
 abbrev pub first_text : Bool → List ℕ
 first_text first = if first then codes " first\n" else codes " later\n"
 
+-- the gate after a mark
 abbrev pub gate_text : Bool → List ℕ
 gate_text draining = if draining then codes " drain\n" else codes " ready\n"
 
@@ -33,13 +35,16 @@ who_conn t n id = who t n ++ codes " " ++ decimal id.0
 abbrev pub place_uses : PlaceNo → ℕ → List ℕ
 place_uses place uses = codes " " ++ place_text place ++ codes " " ++ decimal uses
 
+-- the thread, and the interval's number after and before the mark
 unfoldable pub round_line : ThreadNo → ℕ → ℕ → List ℕ
-round_line t k old = codes "round " ++ decimal t.0 ++ codes " " ++ decimal k ++ codes " " ++ decimal old ++ codes "\n"
+round_line t k old =
+    codes "round " ++ decimal t.0 ++ codes " " ++ decimal k ++ codes " " ++ decimal old ++ codes "\n"
 
 -- the line of a mark; other entries have none
 unfoldable pub mark_line : Entry → List ℕ
 mark_line (entry.Open t n id) = codes "open " ++ who_conn t n id ++ codes "\n"
-mark_line (entry.Park t n id place uses) = codes "park " ++ who_conn t n id ++ place_uses place uses ++ codes "\n"
+mark_line (entry.Park t n id place uses) =
+    codes "park " ++ who_conn t n id ++ place_uses place uses ++ codes "\n"
 mark_line (entry.Take t n first place id uses) =
     codes "take " ++ who_conn t n id ++ place_uses place uses ++ first_text first
 mark_line (entry.Close t n id) = codes "close " ++ who_conn t n id ++ codes "\n"
@@ -52,6 +57,7 @@ mark_line (entry.Down t old) = []
 mark_line (entry.Count t c) = []
 mark_line (entry.Gate t draining) = []
 
+-- the configuration's word
 abbrev pub mode_text : Mode → List ℕ
 mode_text mode.Never = codes "never"
 mode_text mode.Safe = codes "safe"
@@ -67,10 +73,13 @@ max_text (Some n) = decimal n
 abbrev pub full_name : ServerPart → List ℕ
 full_name p = p.back ++ codes "/" ++ p.server
 
+-- the rules of the server; delay is in milliseconds
 unfoldable pub server_line : ServerPart → List ℕ
 server_line p =
-    codes "server " ++ full_name p ++ codes " " ++ mode_text p.rules.mode ++ codes " " ++ max_text p.rules.max
-    ++ codes " " ++ decimal p.rules.low ++ codes " " ++ decimal p.rules.delay.0 ++ codes "\n"
+    codes "server " ++ full_name p ++ codes " " ++ mode_text p.rules.mode
+    ++ codes " " ++ max_text p.rules.max ++ codes " " ++ decimal p.rules.low
+    ++ codes " " ++ decimal p.rules.delay.0 ++ codes "\n"
 
+-- the rules, then the marks in order
 unfoldable pub server_lines : ServerPart → List ℕ
 server_lines p = server_line p ++ flat_map mark_line p.marks

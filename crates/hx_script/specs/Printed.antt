@@ -6,21 +6,29 @@ use Rattle.hx_script.specs.MarkLines.{server_lines}
 use Rattle.hx_script.specs.RecordLines.{record_line}
 use Rattle.hx_script.specs.LinkLines.{client_lines, conn_lines, totals_lines}
 
+-- the format and its version
 unfoldable pub first_line : List ℕ
 first_line = codes "hx-transcript 1\n"
 
+-- what came of each server
 unfoldable pub servers_text : Transcript → List ℕ
 servers_text t = first_line ++ flat_map server_lines t.servers
 
+-- the records in the order in which they were made
 unfoldable pub records_text : Transcript → List ℕ
 records_text t = codes "records\n" ++ flat_map (record_line t.servers) t.records
 
+-- the bytes of the clients' links, then those of the connections
 unfoldable pub links_text : Transcript → List ℕ
-links_text t = codes "links\n" ++ flat_map client_lines t.clients ++ flat_map (conn_lines t.servers) t.conns
+links_text t =
+    codes "links\n" ++ flat_map client_lines t.clients
+    ++ flat_map (conn_lines t.servers) t.conns
 
+-- the counts, and the last line
 unfoldable pub sums_text : Transcript → List ℕ
 sums_text t = codes "totals\n" ++ totals_lines t.servers t.totals ++ codes "end\n"
 
+-- the printed form, version 1
 abbrev pub printed : Transcript → List ℕ
 printed t = servers_text t ++ records_text t ++ links_text t ++ sums_text t
 

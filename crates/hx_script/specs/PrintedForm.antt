@@ -18,6 +18,7 @@ use Rattle.hx_script.specs.declared.transcript.ServerPart.{ServerPart}
 abbrev pub is_name_byte : ℕ → Bool
 is_name_byte b = is_ascii_alphanumeric b || b == 45 || b == 95 || b == 46 || b == 58
 
+-- the name of a backend or of a server
 abbrev pub IsName : List ℕ → Type 0
 IsName name = (0 < length name) × IsTrue (list_all is_name_byte name)
 
@@ -27,6 +28,7 @@ Rises Before [] = ⊤
 Rises Before (a ∷ []) = ⊤
 Rises Before (a ∷ b ∷ items) = Before a b × Rises Before (b ∷ items)
 
+-- by the first number, then by the second
 abbrev pub PairBefore : ℕ → ℕ → ℕ → ℕ → Type 0
 PairBefore a b c d = (a < c) ⊎ ((a ≡ c) × (b < d))
 
@@ -38,6 +40,7 @@ ClientBefore a b = PairBefore a.worker.0 a.session.0 b.worker.0 b.session.0
 abbrev pub ConnBefore : ConnBytes → ConnBytes → Type 0
 ConnBefore a b = PairBefore a.server.0 a.id.0 b.server.0 b.id.0
 
+-- two servers have two names
 abbrev pub OtherName : ServerPart → ServerPart → Type 0
 OtherName a b = (a.back ≡ b.back) × (a.server ≡ b.server) → ⊥
 
@@ -46,10 +49,10 @@ abbrev pub OtherNames : List ServerPart → Type 0
 OtherNames [] = ⊤
 OtherNames (p ∷ servers) = All (OtherName p) servers × OtherNames servers
 
--- a mark; a take of the caretaker says later, and a round rises
+-- a mark; a take of the caretaker says later
 abbrev pub IsToldMark : Entry → Type 0
 IsToldMark (entry.Take t n first place id uses) = n.0 ≡ 0 → first ≡ false
-IsToldMark (entry.Round t k old) = old < k
+IsToldMark (entry.Round t k old) = ⊤
 IsToldMark (entry.Open t n id) = ⊤
 IsToldMark (entry.Park t n id place uses) = ⊤
 IsToldMark (entry.Close t n id) = ⊤
@@ -61,6 +64,7 @@ IsToldMark (entry.Down t old) = ⊥
 IsToldMark (entry.Count t c) = ⊥
 IsToldMark (entry.Gate t draining) = ⊥
 
+-- a server with names, and marks alone
 abbrev pub IsToldServer : ServerPart → Type 0
 IsToldServer p = IsName p.back × IsName p.server × All IsToldMark p.marks
 
@@ -70,12 +74,14 @@ IsToldKind count (kind.Passed c) = c.server.0 < count
 IsToldKind count (kind.Cut c why) = (c.server.0 < count) × (why ≡ cut.Early → c.closing ≡ true)
 IsToldKind count (kind.Own status) = ⊤
 
+-- the same of each record; the end of a session names no server
 abbrev pub IsToldRecord : ℕ → Told → Type 0
 IsToldRecord count (told.Served s) = IsToldKind count s.kind
 IsToldRecord count (told.Left l) = ⊤
 
-pub record HasPrintedForm (servers : List ServerPart) (records : List Told) (clients : List ClientBytes)
-    (conns : List ConnBytes) (totals : List Totals) : Type 0 where
+-- the parts of a transcript stand in order, and name each other so that a text tells them
+pub record HasPrintedForm (servers : List ServerPart) (records : List Told)
+    (clients : List ClientBytes) (conns : List ConnBytes) (totals : List Totals) : Type 0 where
   pub servers_told : All IsToldServer servers
   pub other_names : OtherNames servers
   pub records_told : All (IsToldRecord (length servers)) records

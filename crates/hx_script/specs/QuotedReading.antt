@@ -7,14 +7,19 @@ use Rattle.hx_script.specs.declared.quoted.Step.TheVariants.{End, Bad, Byte, Mod
 
 -- the value of a digit of base 16 in lower case, or 16
 abbrev pub hex_value : ℕ → ℕ
-hex_value b = if nat_le 48 b && nat_le b 57 then b - 48 else if nat_le 97 b && nat_le b 102 then b - 87 else 16
+hex_value b =
+    if nat_le 48 b && nat_le b 57 then b - 48
+    else if nat_le 97 b && nat_le b 102 then b - 87 else 16
 
+-- after \x
 abbrev pub first_digit : ℕ → Step
 first_digit h = if nat_lt h 16 then Mode (AfterDigit h) else Bad
 
+-- after \x and a digit
 abbrev pub second_digit : ℕ → ℕ → Step
 second_digit h l = if nat_lt h 16 && nat_lt l 16 then Byte (16 * h + l) else Bad
 
+-- what the next byte does
 abbrev pub step : ReadMode → ℕ → Step
 step InText b =
     if b == 34 then End
@@ -32,16 +37,19 @@ step (AfterDigit h) b = second_digit h (hex_value b)
 abbrev pub Read : Type 0
 Read = Option (List ℕ × List ℕ)
 
+-- bytes that were read before
 abbrev pub with_front : List ℕ → Read → Read
 with_front front None = None
 with_front front (Some r) = Some (front ++ r.0, r.1)
 
+-- the rest of the reading after a step
 abbrev pub after : Step → (ReadMode → Read) → List ℕ → Read
 after End go rest = Some ([], rest)
 after Bad go rest = None
 after (Byte c) go rest = with_front (c ∷ []) (go InText)
 after (Mode m) go rest = go m
 
+-- reading up to the closing quote
 unfoldable pub read_from : ReadMode → List ℕ → Read
 read_from m [] = None
 read_from m (b ∷ rest) = after (step m b) (λ n. read_from n rest) rest

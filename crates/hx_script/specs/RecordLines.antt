@@ -8,6 +8,7 @@ use Rattle.hx_record.specs.declared.served.CutCause.{CutCause}
 use Rattle.hx_record.specs.declared.served.CutCause.TheVariants as cut
 use Rattle.hx_record.specs.declared.served.Kind.{Kind}
 use Rattle.hx_record.specs.declared.served.Kind.TheVariants as kind
+use Rattle.hx_record.specs.declared.served.Left.{Left}
 use Rattle.hx_record.specs.declared.served.LeftCause.{LeftCause}
 use Rattle.hx_record.specs.declared.served.LeftCause.TheVariants as cause
 use Rattle.hx_record.specs.declared.served.Served.{Served}
@@ -20,11 +21,12 @@ use Rattle.hx_script.specs.MarkLines.{who, full_name}
 abbrev pub span_text : Span → List ℕ
 span_text s = decimal s.from ++ codes "-" ++ decimal s.to
 
--- the name of a server by its number
+-- the name of a server that is there
 abbrev pub name_or_none : Option ServerPart → List ℕ
 name_or_none None = []
 name_or_none (Some p) = full_name p
 
+-- the name of the server of that number
 abbrev pub name_of : List ServerPart → ServerNo → List ℕ
 name_of servers number = name_or_none (slice_get servers number.0)
 
@@ -32,6 +34,7 @@ name_of servers number = name_or_none (slice_get servers number.0)
 unfoldable pub conn_text : List ServerPart → ServerNo → ConnId → List ℕ
 conn_text servers number id = name_of servers number ++ codes "#" ++ decimal id.0
 
+-- whether the client's link closes after it
 abbrev pub closing_text : Bool → List ℕ
 closing_text closing = if closing then codes " close\n" else codes " keep\n"
 
@@ -39,6 +42,7 @@ closing_text closing = if closing then codes " close\n" else codes " keep\n"
 abbrev pub cut_closing_text : Bool → List ℕ
 cut_closing_text closing = if closing then codes " close-yes " else codes " close-no "
 
+-- the word for the cause of a cut
 abbrev pub cut_text : CutCause → List ℕ
 cut_text cut.Early = codes "early"
 cut_text cut.Ended = codes "ended"
@@ -64,16 +68,30 @@ carried_text servers c ask gave =
 abbrev pub begin_text : Served → List ℕ
 begin_text s = who s.worker s.session ++ codes " " ++ decimal s.number ++ codes " "
 
-abbrev pub kind_line : List ServerPart → Served → Kind → List ℕ
-kind_line servers s (kind.Passed c) =
+-- an exchange that was passed on whole
+abbrev pub passed_line : List ServerPart → Served → Carried → List ℕ
+passed_line servers s c =
     codes "pass " ++ begin_text s ++ carried_text servers c s.ask s.gave ++ closing_text c.closing
-kind_line servers s (kind.Cut c why) =
+
+-- an exchange that was cut
+abbrev pub cut_line : List ServerPart → Served → Carried → CutCause → List ℕ
+cut_line servers s c why =
     codes "cut " ++ begin_text s ++ carried_text servers c s.ask s.gave
     ++ cut_closing_text c.closing ++ cut_text why ++ codes "\n"
-kind_line servers s (kind.Own status) =
+
+-- an answer of the proxy's own
+abbrev pub own_line : Served → ℕ → List ℕ
+own_line s status =
     codes "own " ++ begin_text s ++ decimal status ++ codes " ask " ++ span_text s.ask
     ++ codes " gave " ++ span_text s.gave ++ codes "\n"
 
+-- the line of a request, by what came of it
+abbrev pub kind_line : List ServerPart → Served → Kind → List ℕ
+kind_line servers s (kind.Passed c) = passed_line servers s c
+kind_line servers s (kind.Cut c why) = cut_line servers s c why
+kind_line servers s (kind.Own status) = own_line s status
+
+-- the word for the cause of a session's end
 abbrev pub cause_text : LeftCause → List ℕ
 cause_text cause.End = codes "end"
 cause_text cause.Closing = codes "closing"
@@ -83,8 +101,13 @@ cause_text cause.Idle = codes "idle"
 cause_text cause.Fault = codes "fault"
 cause_text cause.Stop = codes "stop"
 
-unfoldable pub record_line : List ServerPart → Told → List ℕ
-record_line servers (told.Served s) = kind_line servers s s.kind
-record_line servers (told.Left l) =
+-- the end of a session
+abbrev pub left_line : Left → List ℕ
+left_line l =
     codes "left " ++ who l.worker l.session ++ codes " " ++ span_text l.ask
     ++ codes " " ++ cause_text l.cause ++ codes "\n"
+
+-- the line of a record
+unfoldable pub record_line : List ServerPart → Told → List ℕ
+record_line servers (told.Served s) = kind_line servers s s.kind
+record_line servers (told.Left l) = left_line l

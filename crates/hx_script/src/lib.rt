@@ -7,9 +7,13 @@ mod pieces;
 mod print;
 mod quoted;
 mod record_lines;
+#[cfg(test)]
+mod tests;
 mod transcript;
 
-pub use hx_record::{Carried, ClientBytes, ConnBytes, CutCause, Kind, Left, LeftCause, Served, Told};
+pub use hx_record::{
+    Carried, ClientBytes, ConnBytes, CutCause, Kind, Left, LeftCause, Served, Told,
+};
 pub use print::print_transcript;
-pub use quoted::read_quoted;
+pub use quoted::{one_byte_text, read_quoted};
 pub use transcript::{ServerPart, Transcript};

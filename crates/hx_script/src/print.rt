@@ -25,7 +25,8 @@ fn put_servers(out: &mut Vec<u8>, servers: &[ServerPart]) -> Result<(), NoMemory
 }
 
 fn put_records(out: &mut Vec<u8>, servers: &[ServerPart], records: &[Told]) -> Result<(), NoMemory>
-    ensures { OnOk result (out.new.items ≡ out.old.items ++ flat_map (record_line servers.now) records.now) }
+    ensures { OnOk result (out.new.items ≡ out.old.items
+        ++ flat_map (record_line servers.now) records.now) }
 {
     for told in records {
         put_record(out, servers, *told)?;
@@ -43,7 +44,8 @@ fn put_clients(out: &mut Vec<u8>, clients: &[ClientBytes]) -> Result<(), NoMemor
 }
 
 fn put_conns(out: &mut Vec<u8>, servers: &[ServerPart], conns: &[ConnBytes]) -> Result<(), NoMemory>
-    ensures { OnOk result (out.new.items ≡ out.old.items ++ flat_map (conn_lines servers.now) conns.now) }
+    ensures { OnOk result (out.new.items ≡ out.old.items
+        ++ flat_map (conn_lines servers.now) conns.now) }
 {
     for conn in conns {
         put_conn_bytes(out, servers, conn)?;
@@ -105,7 +107,7 @@ fn put_sums(out: &mut Vec<u8>, t: &Transcript) -> Result<(), NoMemory>
     put(out, b"end\n")
 }
 
-/// The text of the transcript.
+/// The printed form of the transcript, version 1. The one error is want of memory.
 pub fn print_transcript(alloc: Global, t: &Transcript) -> Result<Vec<u8>, NoMemory>
     ensures { IfOk result (λ text. Spells text.items t.now) }
 {

@@ -1,6 +1,7 @@
 //! Reading byte texts.
-ghost use Rattle.std.specs.Prelude.{◌≡◌, ◌<◌, IfOk, OnOk};
+ghost use Rattle.std.specs.Prelude.{◌≡◌, ℕ, ◌<◌, List, All, IfOk, OnOk, MatchOption};
 ghost use Rattle.std.specs.Option.{option_map};
+ghost use Rattle.hx_script.specs.ByteText.{quoted, Quotes, BeginsQuoted, NoQuoted};
 ghost use Rattle.hx_script.specs.QuotedReading.{hex_value, first_digit, second_digit, step, read_from, quoted_at};
 ghost use Rattle.hx_script.specs.declared.quoted.ReadMode.TheVariants.{InText, AfterBackslash};
 
@@ -99,7 +100,8 @@ fn step_of(mode: ReadMode, b: u8) -> Step
 }
 
 fn read_body(alloc: Global, text: &[u8]) -> Result<Option<(Vec<u8>, &[u8])>, NoMemory>
-    ensures { IfOk result (λ o. option_map (λ x. (x.0.items, x.1.now)) o ≡ read_from InText text.now) }
+    ensures { IfOk result (λ o. option_map (λ x. (x.0.items, x.1.now)) o
+        ≡ read_from InText text.now) }
 {
     let mut bytes = Vec::new(alloc);
     let mut mode = ReadMode::InText;
@@ -117,8 +119,7 @@ fn read_body(alloc: Global, text: &[u8]) -> Result<Option<(Vec<u8>, &[u8])>, NoM
     Ok(None)
 }
 
-/// The bytes of the byte text at the front, and what follows it.
-pub fn read_quoted(alloc: Global, text: &[u8]) -> Result<Option<(Vec<u8>, &[u8])>, NoMemory>
+fn read_front(alloc: Global, text: &[u8]) -> Result<Option<(Vec<u8>, &[u8])>, NoMemory>
     ensures { IfOk result (λ o. option_map (λ x. (x.0.items, x.1.now)) o ≡ quoted_at text.now) }
 {
     match text {
@@ -126,3 +127,19 @@ pub fn read_quoted(alloc: Global, text: &[u8]) -> Result<Option<(Vec<u8>, &[u8])
         _ => Ok(None),
     }
 }
+
+/// The bytes of the byte text at the front, and what follows it; None where none is there.
+/// The one error is want of memory.
+pub fn read_quoted(alloc: Global, text: &[u8]) -> Result<Option<(Vec<u8>, &[u8])>, NoMemory>
+    ensures reads { IfOk result (λ o. MatchOption o (NoQuoted text.now)
+        (λ x. BeginsQuoted text.now x.0.items x.1.now)) }
+{
+    read_front(alloc, text)
+}
+
+/// A text begins with one byte text alone, and bytes in their one spelling are a byte text.
+pub fn one_byte_text()
+    ensures alone { (text bytes rest more left : List ℕ) → BeginsQuoted text bytes rest
+        → BeginsQuoted text more left → (bytes ≡ more) × (rest ≡ left) }
+    ensures spelling { (bytes : List ℕ) → All (λ b. b < 256) bytes → Quotes (quoted bytes) bytes }
+{}

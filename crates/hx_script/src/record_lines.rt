@@ -1,7 +1,7 @@
 //! The lines of records.
 ghost use Rattle.std.specs.Prelude.{◌≡◌, ◌++◌, OnOk, decimal, codes};
 ghost use Rattle.hx_script.specs.MarkLines.{who};
-ghost use Rattle.hx_script.specs.RecordLines.{span_text, name_of, conn_text, closing_text, cut_closing_text, cut_text, link_ranges, carried_text, begin_text, kind_line, cause_text, record_line};
+ghost use Rattle.hx_script.specs.RecordLines.{span_text, name_of, conn_text, closing_text, cut_closing_text, cut_text, link_ranges, carried_text, begin_text, passed_line, cut_line, own_line, left_line, kind_line, cause_text, record_line};
 
 use crate::mark_lines::put_full_name;
 use crate::pieces::{put, put_number, put_span, put_who};
@@ -55,8 +55,14 @@ fn put_ranges(out: &mut Vec<u8>, c: Carried, ask: Span, gave: Span) -> Result<()
 }
 
 #[tactic(auto, unfolding(crate::specs::RecordLines::carried_text))]
-fn put_carried(out: &mut Vec<u8>, servers: &[ServerPart], s: Served, c: Carried) -> Result<(), NoMemory>
-    ensures { OnOk result (out.new.items ≡ out.old.items ++ carried_text servers.now c s.ask s.gave) }
+fn put_carried(
+    out: &mut Vec<u8>,
+    servers: &[ServerPart],
+    s: Served,
+    c: Carried,
+) -> Result<(), NoMemory>
+    ensures { OnOk result (out.new.items ≡ out.old.items
+        ++ carried_text servers.now c s.ask s.gave) }
 {
     put_conn(out, servers, c.server, c.id)?;
     put(out, b" ")?;
@@ -67,7 +73,11 @@ fn put_carried(out: &mut Vec<u8>, servers: &[ServerPart], s: Served, c: Carried)
 fn cut_closing_word(closing: bool) -> &'static [u8]
     ensures { result.now ≡ cut_closing_text closing }
 {
-    if closing { b" close-yes " } else { b" close-no " }
+    if closing {
+        b" close-yes "
+    } else {
+        b" close-no "
+    }
 }
 
 fn cut_word(why: CutCause) -> &'static [u8]
@@ -94,11 +104,13 @@ fn put_begin(out: &mut Vec<u8>, s: Served) -> Result<(), NoMemory>
     put(out, b" ")
 }
 
-fn put_passed(out: &mut Vec<u8>, servers: &[ServerPart], s: Served, c: Carried) -> Result<(), NoMemory>
-    ensures {
-        OnOk result (out.new.items ≡ out.old.items ++ codes "pass " ++ begin_text s
-            ++ carried_text servers.now c s.ask s.gave ++ closing_text c.closing)
-    }
+fn put_passed(
+    out: &mut Vec<u8>,
+    servers: &[ServerPart],
+    s: Served,
+    c: Carried,
+) -> Result<(), NoMemory>
+    ensures { OnOk result (out.new.items ≡ out.old.items ++ passed_line servers.now s c) }
 {
     put(out, b"pass ")?;
     put_begin(out, s)?;
@@ -113,10 +125,7 @@ fn put_cut(
     c: Carried,
     why: CutCause,
 ) -> Result<(), NoMemory>
-    ensures {
-        OnOk result (out.new.items ≡ out.old.items ++ codes "cut " ++ begin_text s
-            ++ carried_text servers.now c s.ask s.gave ++ cut_closing_text c.closing ++ cut_text why ++ codes "\n")
-    }
+    ensures { OnOk result (out.new.items ≡ out.old.items ++ cut_line servers.now s c why) }
 {
     put(out, b"cut ")?;
     put_begin(out, s)?;
@@ -127,10 +136,7 @@ fn put_cut(
 }
 
 fn put_own(out: &mut Vec<u8>, s: Served, status: u16) -> Result<(), NoMemory>
-    ensures {
-        OnOk result (out.new.items ≡ out.old.items ++ codes "own " ++ begin_text s ++ decimal status
-            ++ codes " ask " ++ span_text s.ask ++ codes " gave " ++ span_text s.gave ++ codes "\n")
-    }
+    ensures { OnOk result (out.new.items ≡ out.old.items ++ own_line s status) }
 {
     put(out, b"own ")?;
     put_begin(out, s)?;
@@ -165,10 +171,7 @@ fn cause_word(cause: LeftCause) -> &'static [u8]
 }
 
 fn put_left(out: &mut Vec<u8>, l: Left) -> Result<(), NoMemory>
-    ensures {
-        OnOk result (out.new.items ≡ out.old.items ++ codes "left " ++ who l.worker l.session
-            ++ codes " " ++ span_text l.ask ++ codes " " ++ cause_text l.cause ++ codes "\n")
-    }
+    ensures { OnOk result (out.new.items ≡ out.old.items ++ left_line l) }
 {
     put(out, b"left ")?;
     put_who(out, l.worker, l.session)?;

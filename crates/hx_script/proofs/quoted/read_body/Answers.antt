@@ -1,7 +1,5 @@
-use Rattle.std.proofs.Common.{◌≡◌, ℕ, List, Some, arith, sym, ap, ◌∙◌, ◌++◌, ◌∷◌, [], ◌+◌, drop}
+use Rattle.std.proofs.Common.{ℕ, List, Some, sym, ap, ◌∙◌, ◌+◌}
 use Rattle.std.proofs.lemmas.List.{take_rest}
-use Rattle.hx_script.specs.QuotedReading.{with_front, read_from}
-use Rattle.hx_script.specs.declared.quoted.ReadMode.{ReadMode}
 use Rattle.hx_script.proofs.QuotedLemmas.{ended, spoilt, read_byte, changed_mode, no_end}
 use Rattle.hx_script.proofs.quoted.read_body.Goals as goal
 use Rattle.hx_script.proofs.quoted.read_body.Goals.{in-Byte+in_ok-put-in-Byte, in-Mode}
