@@ -1,0 +1,3 @@
+pub mod FramingLemmas
+pub mod CloseLemmas
+pub mod KindLemmas

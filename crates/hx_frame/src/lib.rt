@@ -1,0 +1,13 @@
+//! Where a body ends: its kind by the head, and its last byte in any cutting (RFC 9112, sections 6.3 and 7.1).
+#![tactic(auto)]
+
+mod body;
+mod close;
+mod connection;
+mod fields;
+mod length;
+
+pub use body::{body_of_answer, body_of_request};
+pub use close::{persists, wants_close};
+pub use connection::has_connection_field;
+pub use hx_message::{BodyKind, FrameFault, MethodKind};
