@@ -1,3 +1,6 @@
 pub mod FramingLemmas
 pub mod CloseLemmas
 pub mod KindLemmas
+pub mod LineLemmas
+pub mod SmallLemmas
+pub mod StepBack

@@ -1,2 +1,4 @@
 pub mod Framing
 pub mod Options
+pub mod Chunks
+pub mod Endings

@@ -2,10 +2,12 @@
 #![tactic(auto)]
 
 mod body;
+mod chunk;
 mod close;
 mod connection;
 mod fields;
 mod length;
+mod state;
 
 pub use body::{body_of_answer, body_of_request};
 pub use close::{persists, wants_close};
