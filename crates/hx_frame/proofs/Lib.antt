@@ -4,3 +4,5 @@ pub mod KindLemmas
 pub mod LineLemmas
 pub mod SmallLemmas
 pub mod StepBack
+pub mod StepOn
+pub mod ReadLemmas

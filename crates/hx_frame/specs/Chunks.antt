@@ -1,9 +1,10 @@
 -- Private: a body in chunks as a machine that reads one byte at a time (RFC 9112, section 7.1).
-use Rattle.std.specs.Prelude.{◌≡◌, ℕ, ◌+◌, ◌-◌, ◌*◌, ◌^◌, Bool, true, ◌&&◌, ◌||◌, List, [], ◌∷◌, if◌then◌else◌, ◌==◌, nat_lt, nat_le}
+use Rattle.std.specs.Prelude.{◌≡◌, ℕ, ◌+◌, ◌-◌, ◌*◌, ◌^◌, Bool, true, false, ◌&&◌, ◌||◌, List, [], ◌∷◌, if◌then◌else◌, ◌==◌, nat_lt, nat_le}
 use Rattle.std.specs.Char.{is_ascii_hexdigit, digit_value}
 use Rattle.httparse.specs.Ascii.{tab, line_feed, carriage_return, space, semicolon}
 use Rattle.hx_message.specs.Chunked as message
 use Rattle.hx_frame.specs.declared.state.ChunkState.{ChunkState}
+use Rattle.hx_frame.specs.declared.state.ChunksRead.{ChunksRead}
 use Rattle.hx_frame.specs.declared.state.ChunkState.TheVariants.{Start, Size, Extension, SizeEnd, Data, DataEnd, TrailerStart, Trailer, TrailerEnd, LastEnd, Done, Bad}
 
 -- the byte wanted leads on
@@ -82,3 +83,51 @@ is_small (TrailerEnd room) = true
 is_small LastEnd = true
 is_small Done = true
 is_small Bad = true
+
+-- the body ended, or none can follow
+abbrev pub is_over : ChunkState → Bool
+is_over Start = false
+is_over (Size size room) = false
+is_over (Extension size room) = false
+is_over (SizeEnd size) = false
+is_over (Data left) = false
+is_over DataEnd = false
+is_over (TrailerStart room) = false
+is_over (Trailer room) = false
+is_over (TrailerEnd room) = false
+is_over LastEnd = false
+is_over Done = true
+is_over Bad = true
+
+abbrev pub is_bad : ChunkState → Bool
+is_bad Start = false
+is_bad (Size size room) = false
+is_bad (Extension size room) = false
+is_bad (SizeEnd size) = false
+is_bad (Data left) = false
+is_bad DataEnd = false
+is_bad (TrailerStart room) = false
+is_bad (Trailer room) = false
+is_bad (TrailerEnd room) = false
+is_bad LastEnd = false
+is_bad Done = false
+is_bad Bad = true
+
+-- so many bytes were used, and that state reached
+abbrev pub chunks_read : ℕ → ChunkState → ChunksRead
+chunks_read used s = record { used = used; state = s }
+
+-- where reading ends, by whether it was over before, whether the next byte is bad, and where it ends behind that byte
+abbrev pub read_on : Bool → Bool → ChunkState → ChunksRead → ChunksRead
+read_on true bad s later = chunks_read 0 s
+read_on false true s later = chunks_read 0 Bad
+read_on false false s later = chunks_read (later.used + 1) later.state
+
+-- reading of bytes, up to the end of the body or to the first bad byte
+unfoldable pub read_chunks : ChunkState → List ℕ → ChunksRead
+read_chunks s [] = chunks_read 0 s
+read_chunks s (b ∷ bs) = read_on (is_over s) (is_bad (step s b)) s (read_chunks (step s b) bs)
+
+-- the same with bytes used before
+abbrev pub used_before : ℕ → ChunksRead → ChunksRead
+used_before n r = chunks_read (n + r.used) r.state

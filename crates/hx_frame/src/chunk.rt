@@ -112,9 +112,10 @@ fn expect(byte: u8, wanted: u8, next: ChunkState) -> ChunkState
 
 impl ChunkState {
     /// The state after one more byte.
-    fn after(self, byte: u8) -> ChunkState
+    pub(crate) fn after(self, byte: u8) -> ChunkState
         requires { IsTrue (machine.is_small self) }
-        ensures { result ≡ machine.step self byte }
+        ensures step { result ≡ machine.step self byte }
+        ensures small { IsTrue (machine.is_small result) }
     {
         match self {
             ChunkState::Start => first_digit(byte),

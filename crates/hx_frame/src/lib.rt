@@ -7,9 +7,14 @@ mod close;
 mod connection;
 mod fields;
 mod length;
+mod meter;
+mod progress;
+mod read;
 mod state;
 
 pub use body::{body_of_answer, body_of_request};
 pub use close::{persists, wants_close};
 pub use connection::has_connection_field;
 pub use hx_message::{BodyKind, FrameFault, MethodKind};
+pub use meter::Meter;
+pub use progress::{Fed, MeterState};

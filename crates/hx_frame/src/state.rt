@@ -26,3 +26,20 @@ pub(crate) enum ChunkState {
     Done,
     Bad,
 }
+
+/// How far a piece was read.
+#[derive(Clone, Copy)]
+pub(crate) struct ChunksRead {
+    pub used: usize,
+    pub state: ChunkState,
+}
+
+/// How far a body was read.
+#[derive(Clone, Copy)]
+pub(crate) enum BodyState {
+    /// So many bytes are left.
+    Bytes(u64),
+    Chunks(ChunkState),
+    /// All bytes to the end of the connection are left.
+    All,
+}
