@@ -6,3 +6,5 @@ pub mod SmallLemmas
 pub mod StepBack
 pub mod StepOn
 pub mod ReadLemmas
+pub mod RunLemmas
+pub mod MeterLemmas

@@ -75,7 +75,7 @@ one_more_chunk bytes h some d =
     let ok = d.whole.1 in
     let whole : IsChunk c = record { line = h.line; digits = h.hexadecimal; some = some; content = d.sized } in
     let text : h.digits ++ h.extension ++ crlf_bytes ++ (d.content ++ crlf_bytes ++ print_chunked b)
-        ≡ print_chunked (record b { chunks = c ∷ b.chunks }) = simp append_assoc in (
+    ≡ print_chunked (record b { chunks = c ∷ b.chunks }) = simp append_assoc in (
       record b { chunks = c ∷ b.chunks },
       record { chunks = All-cons IsChunk c b.chunks whole ok.chunks; last = ok.last; zeros = ok.zeros; trailers = ok.trailers; short = ok.short },
       h.text ∙ ap (λ (xs : List ℕ). h.digits ++ h.extension ++ crlf_bytes ++ xs) (d.text ∙ ap (λ (xs : List ℕ). d.content ++ crlf_bytes ++ xs) d.whole.2) ∙ text,
@@ -102,7 +102,7 @@ line_from_parts (c ∷ cs) b bytes some ok is =
     let here : IsChunk c = All-head IsChunk c cs chunks in
     let later : ChunkedBody = record b { chunks = cs } in
     let regrouped : flat_map print_chunk (c ∷ cs) ++ b.zeros ++ b.extension ++ crlf_bytes ++ print_trailers b.trailers
-        ≡ c.digits ++ c.extension ++ crlf_bytes ++ (c.content ++ crlf_bytes ++ print_chunked later) = simp append_assoc in
+    ≡ c.digits ++ c.extension ++ crlf_bytes ++ (c.content ++ crlf_bytes ++ print_chunked later) = simp append_assoc in
     record {
       digits = c.digits;
       extension = c.extension;
@@ -110,13 +110,16 @@ line_from_parts (c ∷ cs) b bytes some ok is =
       hexadecimal = here.digits;
       rest = c.content ++ crlf_bytes ++ print_chunked later;
       text = is ∙ ap (λ (xs : List Chunk). flat_map print_chunk xs ++ b.zeros ++ b.extension ++ crlf_bytes ++ print_trailers b.trailers) some ∙ regrouped;
-      follows = inr (here.some, record {
-        content = c.content;
-        rest = print_chunked later;
-        sized = here.content;
-        text = refl;
-        whole = (later, record { chunks = All-tail IsChunk c cs chunks; last = ok.last; zeros = ok.zeros; trailers = ok.trailers; short = ok.short }, refl);
-      });
+      follows = inr (
+        here.some,
+        record {
+          content = c.content;
+          rest = print_chunked later;
+          sized = here.content;
+          text = refl;
+          whole = (later, record { chunks = All-tail IsChunk c cs chunks; last = ok.last; zeros = ok.zeros; trailers = ok.trailers; short = ok.short }, refl);
+        },
+      );
     }
 
 pub line_from_whole : (bytes : List ℕ) → IsWhole bytes → HasLine bytes

@@ -7,6 +7,7 @@ use Rattle.hx_message.specs.Body.{IsBody}
 use Rattle.hx_frame.specs.declared.meter.Meter.{Meter}
 use Rattle.hx_frame.specs.declared.progress.MeterState.{MeterState}
 use Rattle.hx_frame.specs.declared.progress.MeterState.TheVariants.{Going, Done, Bad}
+use Rattle.hx_frame.specs.declared.state.BodyState.{BodyState}
 use Rattle.hx_frame.specs.States.{progress_of, runs_to_end, EndsBody}
 
 -- some body begins with the bytes and has more
@@ -40,9 +41,13 @@ pub record FeedSays (kind : BodyKind) (old now : MeterState) (before piece : Lis
 abbrev pub state_of : Meter → MeterState
 state_of m = progress_of m.state
 
+-- a body of that kind was read so far, and is read so far by these bytes
+pub record HasReached (kind : BodyKind) (used : List ℕ) (s : BodyState) : Type 0 where
+  pub fits : MeterFits kind used (progress_of s)
+  -- the bytes that end the body are those that are waited for
+  pub waits : (progress_of s ≡ Bad → ⊥) → (more : List ℕ) → IsBody kind (used ++ more) ↔ EndsBody s more
+  pub to_end : IsTrue (runs_to_end s) ↔ (kind ≡ ToEnd)
+
 -- the meter was made for that kind, and used these bytes since
-pub record HasUsed (kind : BodyKind) (used : List ℕ) (m : Meter) : Type 0 where
-  pub fits : MeterFits kind used (state_of m)
-  -- the bytes that end the body are those that the meter waits for
-  pub waits : (state_of m ≡ Bad → ⊥) → (more : List ℕ) → IsBody kind (used ++ more) ↔ EndsBody m.state more
-  pub to_end : IsTrue (runs_to_end m.state) ↔ (kind ≡ ToEnd)
+abbrev pub HasUsed : BodyKind → List ℕ → Meter → Type 0
+HasUsed kind used m = HasReached kind used m.state
