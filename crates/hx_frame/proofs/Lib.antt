@@ -8,3 +8,4 @@ pub mod StepOn
 pub mod ReadLemmas
 pub mod RunLemmas
 pub mod MeterLemmas
+pub mod EndLemmas

@@ -86,7 +86,7 @@ can_end Done good = ([], refl)
 can_end Bad good = absurd cc
 
 -- where the body has not ended, its end has bytes
-has_bytes : (s : ChunkState) (bytes : List ℕ) → is_over s ≡ false → EndsChunks s bytes → 0 < length bytes
+pub has_bytes : (s : ChunkState) (bytes : List ℕ) → is_over s ≡ false → EndsChunks s bytes → 0 < length bytes
 has_bytes Start bytes on_it h =
     let l = line_from_whole bytes h in
     omega (arith, ap length l.text, length-append {A = ℕ}, l.line.0)
