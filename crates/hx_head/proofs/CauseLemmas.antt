@@ -1,11 +1,11 @@
 -- Why a head that was read or wasn't read is what it is.
-use Rattle.std.proofs.Common.{◌≡◌, ℕ, ◌<◌, ◌≤◌, List, length, take, map, refl, sym, ap, subst, ◌∙◌, arith}
+use Rattle.std.proofs.Common.{◌≡◌, ℕ, ◌<◌, ◌≤◌, List, length, take, ap, arith}
 use Rattle.std.proofs.lemmas.List.{take_all, length-take, length-map}
 use Rattle.httparse.specs.declared.spans.HeaderSpan.{HeaderSpan}
 use Rattle.httparse.specs.declared.spans.RequestSpans.{RequestSpans}
 use Rattle.httparse.specs.declared.spans.ResponseSpans.{ResponseSpans}
-use Rattle.httparse.specs.Grammar.{Field, HasNoRequest, MayBecomeRequest, HasNoResponse, MayBecomeResponse}
-use Rattle.httparse.specs.Spans.{IsRequestOf, IsResponseOf, IsRequestWithin, IsResponseWithin, AreFieldsAt, header_bytes, name_and_value}
+use Rattle.httparse.specs.Grammar.{Field}
+use Rattle.httparse.specs.Spans.{IsRequestOf, IsResponseOf, AreFieldsAt, header_bytes, name_and_value}
 use Rattle.hx_head.specs.Reads.{front}
 use Rattle.hx_head.specs.Causes.{HasOldRequest, HasLowAnswer}
 

@@ -1,24 +1,19 @@
 -- The ranges that the parser answers for the front are the ranges in all the bytes.
-use Rattle.std.proofs.Common.{◌≡◌, ℕ, ◌+◌, ◌-◌, ◌<◌, ◌≤◌, List, [], ◌∷◌, ◌++◌, length, take, drop, map, All, get_or, set, refl, sym, ap, subst, ◌∙◌, arith, rules}
-use Rattle.std.specs.List.{slice_range, between}
-use Rattle.std.proofs.lemmas.List.{take_more_set, map_more, take_all, take-take, take_at, take-map, append-nil, length-take, length-drop, length-map}
-use Rattle.std.proofs.lemmas.List.Elements.{All-map, All-weaker, All-take, All-head, All-tail}
+use Rattle.std.proofs.Common.{◌≡◌, ℕ, ◌+◌, ◌<◌, ◌≤◌, List, [], ◌∷◌, ◌++◌, length, take, drop, map, All, get_or, set, refl, sym, ap, ◌∙◌, arith}
+use Rattle.std.specs.List.{slice_range}
+use Rattle.std.proofs.lemmas.List.{take_more_set, map_more, take-take, take_at, take-map, append-nil, length-take}
+use Rattle.std.proofs.lemmas.List.Elements.{All-map, All-head, All-tail}
 use Rattle.std.proofs.lemmas.Slice.{between_is}
-use Rattle.hx_base.specs.declared.numbers.Span.{Span}
-use Rattle.hx_base.specs.Spans.{bytes_in}
 use Rattle.httparse.specs.declared.spans.HeaderSpan.{HeaderSpan}
 use Rattle.httparse.specs.declared.spans.RequestSpans.{RequestSpans}
 use Rattle.httparse.specs.declared.spans.ResponseSpans.{ResponseSpans}
-use Rattle.httparse.specs.declared.spans.Span as httparse
 use Rattle.httparse.specs.Grammar as grammar
 use Rattle.httparse.specs.Grammar.{ReadsRequest, print_request, print_response}
 use Rattle.httparse.specs.Spans as spans
 use Rattle.httparse.specs.Spans.{IsRequestWithin, IsResponseWithin, IsHeaderWithin, IsWithin, header_bytes, name_and_value, span_bytes}
 use Rattle.hx_message.specs.Body.{kind_of_method}
-use Rattle.hx_message.specs.Fields.{read_fields}
 use Rattle.hx_message.specs.declared.MethodKind.{MethodKind}
 use Rattle.hx_head.specs.declared.head.FieldSpan.{FieldSpan}
-use Rattle.hx_head.specs.declared.head.RequestHead.{RequestHead}
 use Rattle.hx_head.specs.Heads.{span_of, field_of, IsFieldIn, field_in, IsRequestAt, IsAnswerAt}
 use Rattle.hx_head.specs.Reads.{front}
 

@@ -36,12 +36,13 @@ HasLowAnswer bytes =
 abbrev pub RefusesRequest : Refusal → List ℕ → Type 0
 RefusesRequest NotAHead bytes = NeverHasRequest (front bytes)
 RefusesRequest TooLong bytes = (head_limit ≤ length bytes) × HasNoRequest (front bytes)
-RefusesRequest TooManyFields bytes = RequestOverflows field_limit (front bytes) × RequestExceeds field_limit (front bytes)
+RefusesRequest TooManyFields bytes =
+    RequestOverflows field_limit (front bytes) × RequestExceeds field_limit (front bytes)
 RefusesRequest Version bytes = HasOldRequest (front bytes)
 RefusesRequest Status bytes = ⊥
 
--- a whole head has at most 16,384 bytes; where bytes are wanted there are fewer, no head, and bytes can follow that
--- make one or the target is being read; each refusal has its cause
+-- a whole head has at most 16,384 bytes; where bytes are wanted there are fewer and no head, and
+-- bytes can follow that make one or the target is being read; each refusal has its cause
 abbrev pub RequestCause : List ℕ → HeadRead RequestHead → Type 0
 RequestCause bytes (Whole h) = h.length ≤ head_limit
 RequestCause bytes More = (length bytes < head_limit) × HasNoRequest bytes × MayBecomeRequest bytes
@@ -55,7 +56,8 @@ RefusesOld bytes result = HasOldRequest (front bytes) → result ≡ Refused (co
 abbrev pub RefusesAnswer : Refusal → List ℕ → Type 0
 RefusesAnswer NotAHead bytes = NeverHasResponse (front bytes)
 RefusesAnswer TooLong bytes = (head_limit ≤ length bytes) × HasNoResponse (front bytes)
-RefusesAnswer TooManyFields bytes = ResponseOverflows field_limit (front bytes) × ResponseExceeds field_limit (front bytes)
+RefusesAnswer TooManyFields bytes =
+    ResponseOverflows field_limit (front bytes) × ResponseExceeds field_limit (front bytes)
 RefusesAnswer Version bytes = ⊥
 RefusesAnswer Status bytes = HasLowAnswer (front bytes)
 

@@ -1,5 +1,5 @@
 -- Which head of the grammar a head's ranges name (RFC 9112, sections 2 to 5).
-use Rattle.std.specs.Prelude.{◌≡◌, ℕ, ◌+◌, ◌<◌, ◌≤◌, List, [], ◌∷◌, ◌++◌, length, take, map, All}
+use Rattle.std.specs.Prelude.{◌≡◌, ℕ, ◌≤◌, List, [], length, take, map, All}
 use Rattle.hx_base.specs.declared.numbers.Span.{Span}
 use Rattle.hx_base.specs.Spans.{bytes_in}
 use Rattle.httparse.specs.declared.spans.HeaderSpan.{HeaderSpan}

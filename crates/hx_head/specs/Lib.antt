@@ -1,3 +1,6 @@
+pub mod Again
 pub mod Heads
 pub mod Reads
 pub mod Causes
+pub mod Staying
+pub mod Writes

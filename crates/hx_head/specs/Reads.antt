@@ -1,5 +1,5 @@
 -- What reading a head finds among the first 16,384 bytes.
-use Rattle.std.specs.Prelude.{◌≡◌, ℕ, ◌<◌, ◌≤◌, List, [], length, take, ⊤}
+use Rattle.std.specs.Prelude.{◌≡◌, ℕ, ◌≤◌, List, length, take, ⊤}
 use Rattle.httparse.specs.declared.spans.HeaderSpan.{HeaderSpan}
 use Rattle.httparse.specs.declared.spans.RequestSpans.{RequestSpans}
 use Rattle.httparse.specs.declared.spans.ResponseSpans.{ResponseSpans}
@@ -31,18 +31,22 @@ IsWholeAnd (Refused why) P = ⊥
 -- a request head of HTTP/1.1 with at most 100 fields at the front is found
 abbrev pub FindsRequest : List ℕ → HeadRead RequestHead → Type 0
 FindsRequest bytes result =
-    (g : grammar.RequestHead) (rest : List ℕ) → ReadsRequest (front bytes) g rest → g.minor ≡ 1 → length g.fields ≤ field_limit
+    (g : grammar.RequestHead) (rest : List ℕ) → ReadsRequest (front bytes) g rest
+    → g.minor ≡ 1 → length g.fields ≤ field_limit
     → IsWholeAnd result (λ h. IsRequestAt bytes h g)
 
 -- an answer head with at most 100 fields and a status of at least 100 at the front is found
 abbrev pub FindsAnswer : List ℕ → HeadRead AnswerHead → Type 0
 FindsAnswer bytes result =
-    (g : grammar.ResponseHead) (rest : List ℕ) → ReadsResponse (front bytes) g rest → 100 ≤ status_code g → length g.fields ≤ field_limit
+    (g : grammar.ResponseHead) (rest : List ℕ) → ReadsResponse (front bytes) g rest
+    → 100 ≤ status_code g → length g.fields ≤ field_limit
     → IsWholeAnd result (λ h. IsAnswerAt bytes h g)
 
 -- whatever head the parser's answer names, h names it too
 abbrev pub IsSameRequest : List ℕ → List HeaderSpan → RequestSpans → RequestHead → Type 0
-IsSameRequest bytes headers r h = (g : grammar.RequestHead) → spans.IsRequestAt (front bytes) headers r g → IsRequestAt bytes h g
+IsSameRequest bytes headers r h =
+    (g : grammar.RequestHead) → spans.IsRequestAt (front bytes) headers r g → IsRequestAt bytes h g
 
 abbrev pub IsSameAnswer : List ℕ → List HeaderSpan → ResponseSpans → AnswerHead → Type 0
-IsSameAnswer bytes headers r h = (g : grammar.ResponseHead) → spans.IsResponseAt (front bytes) headers r g → IsAnswerAt bytes h g
+IsSameAnswer bytes headers r h =
+    (g : grammar.ResponseHead) → spans.IsResponseAt (front bytes) headers r g → IsAnswerAt bytes h g

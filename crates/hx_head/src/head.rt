@@ -14,6 +14,12 @@ pub struct FieldSpan {
     pub value: Span,
 }
 
+/// What stands in a place that has no field.
+pub(crate) const EMPTY_FIELD: FieldSpan = FieldSpan {
+    name: Span { from: 0, to: 0 },
+    value: Span { from: 0, to: 0 },
+};
+
 /// Where the parts of a request head are.
 #[derive(Clone, Copy)]
 pub struct RequestHead {

@@ -1,8 +1,7 @@
-use Rattle.std.proofs.Common.{◌∙◌, subst, List, ℕ, rules}
+use Rattle.std.proofs.Common.{◌∙◌, subst, rules}
 use Rattle.httparse.specs.Grammar.{HasNoResponse, MayBecomeResponse}
 use Rattle.httparse.specs.Spans.{IsResponseOf}
 use Rattle.hx_head.specs.declared.refusal.Refusal.TheVariants.{TooLong, Status}
-use Rattle.hx_head.specs.Reads.{front}
 use Rattle.hx_head.specs.Causes.{HasLowAnswer}
 use Rattle.hx_head.proofs.CauseLemmas.{front_all, low_answer}
 use Rattle.hx_head.proofs.answer.read_answer.Goals as goal

@@ -1,8 +1,7 @@
-use Rattle.std.proofs.Common.{◌∙◌, subst, List, ℕ, rules}
+use Rattle.std.proofs.Common.{◌∙◌, subst, rules}
 use Rattle.httparse.specs.Grammar.{HasNoRequest, MayBecomeRequest}
 use Rattle.httparse.specs.Spans.{IsRequestOf}
 use Rattle.hx_head.specs.declared.refusal.Refusal.TheVariants.{TooLong, Version}
-use Rattle.hx_head.specs.Reads.{front}
 use Rattle.hx_head.specs.Causes.{HasOldRequest}
 use Rattle.hx_head.proofs.CauseLemmas.{front_all, old_request}
 use Rattle.hx_head.proofs.request.read_request.Goals as goal

@@ -1,0 +1,15 @@
+pub mod Table
+pub mod History
+pub mod Rules
+pub mod Held
+pub mod SeatView
+pub mod Causes
+pub mod Opening
+pub mod Taking
+pub mod Parking
+pub mod Takeover
+pub mod Purge
+pub mod Drain
+pub mod Totals
+pub mod Wants
+pub mod Journal
