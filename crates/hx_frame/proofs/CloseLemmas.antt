@@ -1,5 +1,5 @@
 -- The parts of a value, and the options of a head.
-use Rattle.std.proofs.Common.{◌≡◌, ◌≢◌, ℕ, zero, suc, ◌+◌, ◌<◌, ◌≤◌, List, [], ◌∷◌, ◌++◌, length, take, drop, map, All, get_or, cond, Bool, true, false, ◌&&◌, ◌||◌, refl, sym, ap, ◌∙◌, arith, eq-eqb, ne_eqb}
+use Rattle.std.proofs.Common.{◌≡◌, ◌≢◌, ℕ, zero, suc, ◌+◌, ◌<◌, List, [], ◌∷◌, length, take, drop, map, get_or, cond, Bool, true, false, ◌&&◌, ◌||◌, refl, ap, ◌∙◌, arith, eq-eqb, ne_eqb}
 use Rattle.std.specs.Prelude.{codes}
 use Rattle.std.specs.List.{list_any}
 use Rattle.std.specs.Str.{str_eq_ignore_ascii_case}
@@ -8,7 +8,6 @@ use Rattle.httparse.specs.Grammar.{trim_ows}
 use Rattle.hx_message.specs.Fields.{NameAndValue, with_first, parts_of, is_named, connection_options}
 use Rattle.hx_message.specs.Body.{has_close}
 use Rattle.std.proofs.lemmas.List.{drop_more}
-use Rattle.hx_base.specs.declared.numbers.Span.{Span}
 use Rattle.hx_head.specs.declared.head.FieldSpan.{FieldSpan}
 use Rattle.hx_head.specs.Heads.{field_in}
 use Rattle.hx_frame.specs.Options.{lists_close}

@@ -1,10 +1,10 @@
 -- A body, and a whole message, ends at one place.
-use Rattle.std.proofs.Common.{◌≡◌, ◌≢◌, ℕ, ◌+◌, ◌-◌, ◌<◌, ◌≤◌, ◌⊎◌, Bool, true, false, cond, List, [], ◌∷◌, ◌++◌, length, take, drop, Ok, Err, refl, sym, ap, subst, ◌∙◌, inl, inr, ⊎_elim, arith, length-append, append_assoc}
+use Rattle.std.proofs.Common.{◌≡◌, ℕ, ◌-◌, ◌≤◌, Bool, true, false, cond, List, [], ◌∷◌, ◌++◌, length, take, drop, Ok, Err, refl, sym, ap, subst, ◌∙◌, ⊎_elim, arith, length-append}
 use Rattle.std.specs.Prelude.{◌==◌, codes}
 use Rattle.std.specs.List.{list_any}
 use Rattle.std.specs.Str.{str_eq_ignore_ascii_case}
 use Rattle.std.specs.Str.Parse.{digits_value}
-use Rattle.std.proofs.lemmas.List.{append-nil, nil_from_length, length-take, length-drop, take-append-drop, take-take}
+use Rattle.std.proofs.lemmas.List.{nil_from_length, length-take, length-drop, take-append-drop, take-take}
 use Rattle.std.proofs.lemmas.Bool.{cases_lt}
 use Rattle.httparse.specs.Ascii.{comma}
 use Rattle.httparse.specs.Grammar.{RequestHead, ResponseHead, ReadsRequest, ReadsResponse}
@@ -13,15 +13,14 @@ use Rattle.hx_message.specs.declared.MethodKind.{MethodKind}
 use Rattle.hx_message.specs.declared.BodyKind.{BodyKind}
 use Rattle.hx_message.specs.declared.BodyKind.TheVariants.{Nothing, Length, Chunked, ToEnd}
 use Rattle.hx_message.specs.declared.FrameFault.TheVariants.{UnknownCoding, BothLengths, SeveralLengths, BadLength, BadHost}
-use Rattle.hx_message.specs.Fields.{NameAndValue, read_fields, values_of}
+use Rattle.hx_message.specs.Fields.{read_fields, values_of}
 use Rattle.hx_message.specs.Body.{Framed, is_length, length_kind, field_kind, kind_of_fields, with_host, request_kind, answer_kind, IsBody}
-use Rattle.hx_message.specs.Forwarded.{BeginsRequest, IsInterim, IsFinal, BeginsInterims}
-use Rattle.hx_message.specs.Message.{IsRequestWith, IsAnswerWith}
+use Rattle.hx_message.specs.Forwarded.{IsFinal, BeginsInterims}
 use Rattle.hx_message.specs.Partial.{HasWholeRequest, HasWholeAnswer}
 use Rattle.hx_message.proofs.Unique.{interim_final}
 use Rattle.hx_frame.specs.declared.state.ChunkState.{ChunkState}
 use Rattle.hx_frame.specs.declared.state.ChunkState.TheVariants as chunk
-use Rattle.hx_frame.specs.Chunks.{step, is_over}
+use Rattle.hx_frame.specs.Chunks.{step}
 use Rattle.hx_frame.specs.Endings.{EndsChunks}
 use Rattle.hx_frame.proofs.StepOn.{on}
 use Rattle.hx_frame.proofs.ReadLemmas.{has_bytes}

@@ -1,5 +1,5 @@
 -- What the fields of a head give, by what is found of them.
-use Rattle.std.proofs.Common.{◌≡◌, ℕ, ◌<◌, ◌&&◌, Bool, true, false, not, List, length, take, map, Ok, Err, refl, sym, ap, subst, ◌∙◌}
+use Rattle.std.proofs.Common.{◌≡◌, ℕ, ◌&&◌, Bool, true, false, not, List, length, take, map, Ok, Err, refl, sym, ap, subst, ◌∙◌}
 use Rattle.std.specs.Prelude.{◌==◌, nat_lt, codes}
 use Rattle.httparse.specs.Grammar.{RequestHead, ResponseHead, status_code}
 use Rattle.hx_message.specs.Fields.{NameAndValue, read_fields, values_of}

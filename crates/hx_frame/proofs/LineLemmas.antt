@@ -1,6 +1,6 @@
 -- A size line at the front of a body, and trailer lines.
-use Rattle.std.proofs.Common.{◌≡◌, ◌≢◌, ℕ, suc, ◌+◌, ◌*◌, ◌-◌, ◌<◌, ◌≤◌, ◌⊎◌, Bool, true, false, cond, ◌&&◌, List, [], ◌∷◌, ◌++◌, length, All, IsTrue, refl, sym, ap, subst, ◌∙◌, inl, inr, ⊎_elim, arith, append_assoc, length-append}
-use Rattle.std.specs.Prelude.{nat_lt, ◌==◌}
+use Rattle.std.proofs.Common.{◌≡◌, ℕ, ◌+◌, ◌*◌, ◌<◌, ◌≤◌, ◌⊎◌, Bool, true, false, cond, List, [], ◌∷◌, ◌++◌, length, All, IsTrue, refl, sym, ap, subst, ◌∙◌, inl, inr, ⊎_elim, arith, append_assoc, length-append}
+use Rattle.std.specs.Prelude.{◌==◌}
 use Rattle.std.specs.List.{flat_map}
 use Rattle.std.specs.Char.{is_ascii_hexdigit, digit_value}
 use Rattle.std.specs.Str.Parse.{digits_value, digits_value_after}
@@ -9,7 +9,7 @@ use Rattle.std.proofs.lemmas.Bool.{eqb-true}
 use Rattle.std.proofs.lemmas.List.Elements.{All-nil, All-cons, All-head, All-tail}
 use Rattle.httparse.specs.Ascii.{crlf_bytes, digit_zero}
 use Rattle.httparse.specs.Grammar.{AllPass}
-use Rattle.hx_message.specs.Chunked.{IsExtension, IsSizeLine, Chunk, IsChunk, print_chunk, IsTrailer, print_trailers, ChunkedBody, IsChunkedBody, print_chunked}
+use Rattle.hx_message.specs.Chunked.{IsSizeLine, Chunk, IsChunk, print_chunk, print_trailers, ChunkedBody, IsChunkedBody, print_chunked}
 use Rattle.hx_frame.specs.Endings.{IsWhole, AreTrailers, EndsData, FollowsLine}
 
 -- the two cases of a test that chose a value

@@ -1,5 +1,5 @@
 -- What the bytes used by a meter are.
-use Rattle.std.proofs.Common.{◌≡◌, ◌≢◌, ℕ, zero, suc, ◌+◌, ◌-◌, ◌<◌, ◌≤◌, ◌↔◌, Bool, true, false, cond, List, [], ◌∷◌, ◌++◌, length, take, drop, get_or, replicate, IsTrue, refl, sym, ap, subst, ◌∙◌, arith, ne_eqb, add-one, append_assoc, length-append}
+use Rattle.std.proofs.Common.{◌≡◌, ◌≢◌, ℕ, zero, suc, ◌+◌, ◌-◌, ◌<◌, ◌↔◌, Bool, true, false, cond, List, [], ◌∷◌, ◌++◌, length, take, get_or, replicate, IsTrue, refl, sym, ap, subst, ◌∙◌, arith, ne_eqb, add-one, append_assoc, length-append}
 use Rattle.std.specs.Prelude.{◌==◌, min}
 use Rattle.std.proofs.lemmas.Bool.{eqb-true, eqb-false}
 use Rattle.std.proofs.lemmas.List.{length-replicate, append-nil, nil_from_length, length-take, take_more}
@@ -10,14 +10,13 @@ use Rattle.hx_frame.specs.declared.progress.MeterState.{MeterState}
 use Rattle.hx_frame.specs.declared.progress.MeterState.TheVariants.{Going, Done, Bad}
 use Rattle.hx_frame.specs.declared.state.ChunkState.{ChunkState}
 use Rattle.hx_frame.specs.declared.state.ChunkState.TheVariants as chunk
-use Rattle.hx_frame.specs.declared.state.ChunksRead.{ChunksRead}
 use Rattle.hx_frame.specs.declared.state.BodyState.{BodyState}
 use Rattle.hx_frame.specs.declared.state.BodyState.TheVariants.{Bytes, Chunks, All}
 use Rattle.hx_frame.specs.Chunks.{is_over, is_bad, read_chunks}
 use Rattle.hx_frame.specs.Endings.{EndsChunks}
 use Rattle.hx_frame.specs.States.{state_at_front, progress_of, runs_to_end, EndsBody, LeadsOn}
 use Rattle.hx_frame.specs.Meters.{IsProperPart, NoBodyBegins, MeterFits, FeedEnds, FeedSays, HasReached}
-use Rattle.hx_frame.proofs.ReadLemmas.{Reads, reads, goes_on}
+use Rattle.hx_frame.proofs.ReadLemmas.{reads, goes_on}
 
 bytes_go_on : (n : ℕ) → progress_of (Bytes (suc n)) ≡ Going
 bytes_go_on n = let apart : suc n ≢ 0 = λ e. absurd (omega (arith, e)) in ap (λ (t : Bool). cond t Done Going) (ne_eqb (suc n) 0 apart)

@@ -1,17 +1,17 @@
 -- Reading chunks: what is used, when no body can follow, and that a body can follow else.
-use Rattle.std.proofs.Common.{◌≡◌, ◌≢◌, ℕ, zero, suc, ◌+◌, ◌<◌, ◌≤◌, Bool, true, false, List, [], ◌∷◌, ◌++◌, length, take, drop, replicate, All, IsTrue, refl, sym, ap, subst, ◌∙◌, inl, inr, ⊎_elim, arith, length-append, add-one}
+use Rattle.std.proofs.Common.{◌≡◌, ℕ, zero, suc, ◌<◌, ◌≤◌, Bool, true, false, List, [], ◌∷◌, ◌++◌, length, take, replicate, IsTrue, refl, sym, ap, subst, inl, inr, arith, length-append, add-one}
 use Rattle.std.specs.Prelude.{◌==◌}
 use Rattle.std.proofs.lemmas.List.{length-replicate}
 use Rattle.std.proofs.lemmas.List.Elements.{All-nil, All-cons}
 use Rattle.httparse.specs.Ascii.{crlf_bytes, digit_zero}
-use Rattle.hx_message.specs.Chunked.{IsChunk, is_extension_byte, is_trailer_byte, IsTrailer, ChunkedBody, IsChunkedBody, print_chunked}
+use Rattle.hx_message.specs.Chunked.{IsChunk, is_extension_byte, is_trailer_byte, IsTrailer, print_chunked}
 use Rattle.std.specs.Char.{is_ascii_hexdigit}
 use Rattle.hx_frame.specs.declared.state.ChunkState.{ChunkState}
 use Rattle.hx_frame.specs.declared.state.ChunkState.TheVariants.{Start, Size, Extension, SizeEnd, Data, DataEnd, TrailerStart, Trailer, TrailerEnd, LastEnd, Done, Bad}
 use Rattle.hx_frame.specs.declared.state.ChunksRead.{ChunksRead}
 use Rattle.hx_frame.specs.Chunks.{step, is_over, is_bad, chunks_read, read_on, read_chunks}
-use Rattle.hx_frame.specs.Endings.{IsWhole, AreTrailers, EndsTrailer, EndsData, FollowsLine, EndsExtension, EndsDigits, EndsChunks}
-use Rattle.hx_frame.proofs.LineLemmas.{line_from_whole, trailers_cons, length-trailers}
+use Rattle.hx_frame.specs.Endings.{IsWhole, AreTrailers, FollowsLine, EndsChunks}
+use Rattle.hx_frame.proofs.LineLemmas.{line_from_whole}
 use Rattle.hx_frame.proofs.StepBack.{back}
 use Rattle.hx_frame.proofs.StepOn.{on, trailers_least}
 

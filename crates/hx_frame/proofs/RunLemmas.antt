@@ -1,5 +1,5 @@
 -- Reading in a loop: data by its count, other bytes one at a time.
-use Rattle.std.proofs.Common.{◌≡◌, ◌≢◌, ℕ, zero, suc, ◌+◌, ◌*◌, ◌-◌, ◌^◌, ◌<◌, ◌≤◌, ◌⊎◌, ◌&&◌, Bool, true, false, cond, List, [], ◌∷◌, length, take, drop, get_or, IsTrue, refl, sym, ap, subst, ◌∙◌, inl, inr, arith, add-one}
+use Rattle.std.proofs.Common.{◌≡◌, ◌≢◌, ℕ, zero, suc, ◌+◌, ◌*◌, ◌-◌, ◌^◌, ◌<◌, ◌≤◌, Bool, true, false, cond, List, [], ◌∷◌, length, drop, get_or, IsTrue, refl, sym, ap, ◌∙◌, arith}
 use Rattle.std.specs.Prelude.{◌==◌, nat_lt, nat_le}
 use Rattle.std.specs.Char.{is_ascii_hexdigit, digit_value}
 use Rattle.std.proofs.Math.Nat.{pow-suc}
@@ -9,7 +9,7 @@ use Rattle.std.proofs.lemmas.List.{drop_all, drop-drop}
 use Rattle.hx_frame.specs.declared.state.ChunkState.{ChunkState}
 use Rattle.hx_frame.specs.declared.state.ChunkState.TheVariants.{Start, Size, Extension, SizeEnd, Data, DataEnd, TrailerStart, Trailer, TrailerEnd, LastEnd, Done, Bad}
 use Rattle.hx_frame.specs.declared.state.ChunksRead.{ChunksRead}
-use Rattle.hx_frame.specs.Chunks.{is_extension_front, after_digits, in_size, expect, in_data, step, is_small, is_over, is_bad, chunks_read, read_on, read_chunks, used_before}
+use Rattle.hx_frame.specs.Chunks.{is_extension_front, after_digits, in_size, expect, step, is_small, is_over, is_bad, chunks_read, read_on, read_chunks, used_before}
 use Rattle.hx_frame.proofs.SmallLemmas.{few_digits}
 
 by_test : {X : Type 0} (P : X → Type 0) (t : Bool) (x y : X) → (t ≡ true → P x) → (t ≡ false → P y) → P (cond t x y)

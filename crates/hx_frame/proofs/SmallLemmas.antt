@@ -1,8 +1,8 @@
 -- Sizes of few digits fit.
-use Rattle.std.proofs.Common.{◌≡◌, ℕ, suc, ◌+◌, ◌*◌, ◌-◌, ◌^◌, ◌<◌, ◌≤◌, ◌&&◌, true, IsTrue, refl, sym, ap, ◌∙◌, arith, add-one, lit<}
+use Rattle.std.proofs.Common.{ℕ, ◌-◌, ◌^◌, ◌<◌, ◌≤◌, ◌&&◌, IsTrue, arith, lit<}
 use Rattle.std.specs.Prelude.{nat_lt, nat_le}
 use Rattle.std.proofs.lemmas.Bool.{and_parts, ltb-true, leb-true}
-use Rattle.std.proofs.Math.Nat.{pow-le-pow_right, pow-suc}
+use Rattle.std.proofs.Math.Nat.{pow-le-pow_right}
 
 pub few_digits : (size room : ℕ) → IsTrue (nat_le room 15 && nat_lt size (16 ^ (16 - room))) → (room ≤ 15) × (size < 16 ^ (16 - room))
 few_digits size room small =

@@ -1,12 +1,12 @@
 -- One byte back: what ends a body after a byte ends it with that byte before.
-use Rattle.std.proofs.Common.{◌≡◌, ◌≢◌, ℕ, suc, ◌+◌, ◌*◌, ◌-◌, ◌<◌, ◌≤◌, ◌⊎◌, Bool, true, false, cond, ◌&&◌, ◌||◌, List, [], ◌∷◌, ◌++◌, length, All, IsTrue, refl, sym, ap, subst, ◌∙◌, inl, inr, ⊎_elim, arith}
+use Rattle.std.proofs.Common.{◌≡◌, ◌≢◌, ℕ, ◌+◌, ◌*◌, ◌-◌, ◌<◌, ◌≤◌, ◌⊎◌, Bool, true, false, cond, ◌&&◌, ◌||◌, List, [], ◌∷◌, IsTrue, refl, sym, ap, subst, ◌∙◌, inl, inr, ⊎_elim, arith}
 use Rattle.std.specs.Prelude.{nat_lt, nat_le, ◌==◌}
 use Rattle.std.specs.Char.{is_ascii_hexdigit, digit_value}
 use Rattle.std.specs.Str.Parse.{digits_value_after}
 use Rattle.std.proofs.lemmas.Bool.{and_parts, eqb-true, eqb-false, ltb-true, ltb-false, leb-true}
 use Rattle.std.proofs.lemmas.List.Elements.{All-nil, All-cons}
-use Rattle.httparse.specs.Ascii.{tab, space, semicolon, crlf_bytes}
-use Rattle.hx_message.specs.Chunked.{is_extension_byte, is_trailer_byte, IsTrailer, print_trailers}
+use Rattle.httparse.specs.Ascii.{tab, space, semicolon}
+use Rattle.hx_message.specs.Chunked.{is_extension_byte, is_trailer_byte, IsTrailer}
 use Rattle.hx_frame.specs.declared.state.ChunkState.{ChunkState}
 use Rattle.hx_frame.specs.declared.state.ChunkState.TheVariants.{Start, Size, Extension, SizeEnd, Data, DataEnd, TrailerStart, Trailer, TrailerEnd, LastEnd, Done, Bad}
 use Rattle.hx_frame.specs.Chunks.{expect, first_digit, is_extension_front, after_digits, in_size, in_extension, after_line, in_data, at_trailer, in_trailer, step}

@@ -1,19 +1,19 @@
 -- One byte on: what ends a body with a byte in front ends it without that byte after it.
-use Rattle.std.proofs.Common.{◌≡◌, ◌≢◌, ℕ, suc, ◌+◌, ◌*◌, ◌-◌, ◌<◌, ◌≤◌, ◌⊎◌, Bool, true, false, cond, ◌&&◌, ◌||◌, List, [], ◌∷◌, ◌++◌, length, All, IsTrue, refl, sym, ap, subst, ◌∙◌, inl, inr, ⊎_elim, arith, eq-eqb, ne_eqb}
+use Rattle.std.proofs.Common.{◌≡◌, ◌≢◌, ℕ, ◌+◌, ◌*◌, ◌-◌, ◌≤◌, ◌⊎◌, true, false, cond, ◌&&◌, List, [], ◌∷◌, ◌++◌, length, All, IsTrue, refl, sym, ap, subst, ◌∙◌, ⊎_elim, arith, eq-eqb, ne_eqb}
 use Rattle.std.specs.Prelude.{nat_lt, nat_le, ◌==◌}
 use Rattle.std.specs.Char.{is_ascii_hexdigit, digit_value}
 use Rattle.std.specs.Str.Parse.{digits_value, digits_value_after}
 use Rattle.std.proofs.lemmas.Bool.{and_from, lt-ltb, le-ltb, le-leb}
 use Rattle.std.proofs.lemmas.Bool.Decides.{nat_tests}
-use Rattle.std.proofs.lemmas.List.Elements.{All-nil, All-cons, All-head, All-tail}
+use Rattle.std.proofs.lemmas.List.Elements.{All-head, All-tail}
 use Rattle.httparse.specs.Ascii.{tab, space, semicolon, crlf_bytes}
 use Rattle.httparse.specs.Grammar.{AllPass}
 use Rattle.hx_message.specs.Chunked.{is_extension_byte, IsExtension, IsSizeLine, is_trailer_byte, IsTrailer, print_trailers}
 use Rattle.hx_frame.specs.declared.state.ChunkState.{ChunkState}
 use Rattle.hx_frame.specs.declared.state.ChunkState.TheVariants.{Start, Size, Extension, SizeEnd, Data, DataEnd, TrailerStart, Trailer, TrailerEnd, LastEnd, Done, Bad}
 use Rattle.hx_frame.specs.Chunks.{expect, first_digit, is_extension_front, after_digits, in_size, in_extension, after_line, in_data, at_trailer, in_trailer, step}
-use Rattle.hx_frame.specs.Endings.{IsWhole, AreTrailers, EndsTrailer, EndsData, FollowsLine, EndsExtension, EndsDigits, EndsChunks}
-use Rattle.hx_frame.proofs.LineLemmas.{choose_true, choose_false, HasLine, line_from_whole, length-trailers, trailers_cons}
+use Rattle.hx_frame.specs.Endings.{IsWhole, AreTrailers, FollowsLine, EndsChunks}
+use Rattle.hx_frame.proofs.LineLemmas.{choose_true, choose_false, line_from_whole, length-trailers, trailers_cons}
 
 no_cr_in_extension : (b : ℕ) → is_extension_byte b ≡ true → b ≢ 13
 no_cr_in_extension b passes = grind (arith, nat_tests)

@@ -1,5 +1,5 @@
 -- Private: a body in chunks as a machine that reads one byte at a time (RFC 9112, section 7.1).
-use Rattle.std.specs.Prelude.{◌≡◌, ℕ, ◌+◌, ◌-◌, ◌*◌, ◌^◌, Bool, true, false, ◌&&◌, ◌||◌, List, [], ◌∷◌, if◌then◌else◌, ◌==◌, nat_lt, nat_le}
+use Rattle.std.specs.Prelude.{ℕ, ◌+◌, ◌-◌, ◌*◌, ◌^◌, Bool, true, false, ◌&&◌, ◌||◌, List, [], ◌∷◌, if◌then◌else◌, ◌==◌, nat_lt, nat_le}
 use Rattle.std.specs.Char.{is_ascii_hexdigit, digit_value}
 use Rattle.httparse.specs.Ascii.{tab, line_feed, carriage_return, space, semicolon}
 use Rattle.hx_message.specs.Chunked as message
@@ -40,9 +40,6 @@ after_line size = if size == 0 then TrailerStart 16382 else Data size
 
 abbrev pub in_data : ℕ → ℕ → ChunkState
 in_data left b = if nat_lt 0 left then Data (left - 1) else expect b carriage_return DataEnd
-
-abbrev pub is_trailer_byte : ℕ → Bool
-is_trailer_byte b = message.is_trailer_byte b
 
 abbrev pub at_trailer : ℕ → ℕ → ChunkState
 at_trailer room b =

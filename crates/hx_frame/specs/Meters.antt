@@ -1,6 +1,6 @@
 -- What a meter has found of a body that comes in pieces, by all bytes that it used since it was new
 -- (RFC 9112, section 6.3).
-use Rattle.std.specs.Prelude.{◌≡◌, ◌↔◌, ℕ, ◌+◌, ◌<◌, ◌≤◌, Bool, true, false, IsTrue, List, [], ◌∷◌, ◌++◌, length, take, if◌then◌else◌, ◌==◌, ⊤}
+use Rattle.std.specs.Prelude.{◌≡◌, ◌↔◌, ℕ, ◌+◌, ◌<◌, ◌≤◌, IsTrue, List, [], ◌∷◌, ◌++◌, length, take}
 use Rattle.hx_message.specs.declared.BodyKind.{BodyKind}
 use Rattle.hx_message.specs.declared.BodyKind.TheVariants.{ToEnd}
 use Rattle.hx_message.specs.Body.{IsBody}

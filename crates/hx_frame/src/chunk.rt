@@ -1,12 +1,16 @@
 //! A body in chunks, read byte by byte (RFC 9112, section 7.1).
 ghost use Rattle.std.specs.Prelude.{◌≡◌, IsTrue};
+ghost use Rattle.hx_message.specs.Chunked.{is_trailer_byte};
 ghost use Rattle.hx_frame.specs.Chunks as machine;
 
 use crate::state::ChunkState;
 use httparse::parse_hex_digit;
 
 /// How long a trailer section may be, without the empty line at its end.
-pub(crate) const TRAILER_ROOM: u16 = 16_382;
+const TRAILER_ROOM: u16 = 16_382;
+
+/// How long an extension may be behind its first byte and sixteen digits, without the end of its line.
+const EXTENSION_ROOM: u16 = 4_077;
 
 /// The state after a byte that follows the digits of a size.
 fn after_digits(size: u64, room: u8, byte: u8) -> ChunkState
@@ -14,7 +18,7 @@ fn after_digits(size: u64, room: u8, byte: u8) -> ChunkState
 {
     match byte {
         b'\r' => ChunkState::SizeEnd(size),
-        b';' | b' ' | b'\t' => ChunkState::Extension(size, 4077 + u16::from(room)),
+        b';' | b' ' | b'\t' => ChunkState::Extension(size, EXTENSION_ROOM + u16::from(room)),
         _ => ChunkState::Bad,
     }
 }
@@ -60,7 +64,7 @@ fn after_line(size: u64) -> ChunkState
 }
 
 fn is_trailer_byte(byte: u8) -> bool
-    ensures { result ≡ machine.is_trailer_byte byte }
+    ensures { result ≡ is_trailer_byte byte }
 {
     !matches!(byte, b'\r' | b'\n' | 0)
 }

@@ -15,7 +15,7 @@ pub struct Meter {
 }
 
 impl Meter {
-    ghost use Rattle.std.specs.Prelude.{◌↔◌, ℕ, List, [], ◌++◌, take};
+    ghost use Rattle.std.specs.Prelude.{◌↔◌, ◌≤◌, ℕ, List, [], ◌++◌, length, take};
     ghost use Rattle.hx_message.specs.declared.BodyKind.TheVariants.{ToEnd};
     ghost use Rattle.hx_frame.specs.declared.progress.MeterState.TheVariants.{Bad};
     ghost use Rattle.hx_frame.specs.Meters.{state_of, HasUsed, FeedSays};
@@ -34,6 +34,7 @@ impl Meter {
     /// uses nothing.
     pub fn feed(&mut self, piece: &[u8]) -> Fed
         ensures state { result.state ≡ state_of self.new }
+        ensures within { result.used ≤ length piece.now }
         ensures used { (kind : BodyKind) (before : List ℕ) → HasUsed kind before self.old
             → HasUsed kind (before ++ take result.used piece.now) self.new }
         ensures says { (kind : BodyKind) (before : List ℕ) → HasUsed kind before self.old

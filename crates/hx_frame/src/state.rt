@@ -1,4 +1,4 @@
-//! How far a body in chunks was read.
+//! How far a body was read.
 
 /// What was read of a body in chunks. A room tells how many bytes of the same kind may follow.
 #[derive(Clone, Copy)]

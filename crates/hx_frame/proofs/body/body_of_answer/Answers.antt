@@ -1,12 +1,8 @@
-use Rattle.std.proofs.Common.{◌≡◌, ◌&&◌, ℕ, Bool, true, false, length, sym, ap, ◌∙◌}
+use Rattle.std.proofs.Common.{◌&&◌, ℕ, length, sym, ap, ◌∙◌}
 use Rattle.std.proofs.lemmas.Result.{err_from_is_err_and}
 use Rattle.std.specs.Prelude.{codes, ◌==◌, nat_lt}
-use Rattle.httparse.specs.Grammar.{ResponseHead, status_code}
 use Rattle.hx_message.specs.Fields.{read_fields, values_of}
 use Rattle.hx_message.specs.Body.{is_bodiless}
-use Rattle.hx_message.specs.declared.MethodKind.{MethodKind}
-use Rattle.hx_head.specs.declared.head.AnswerHead.{AnswerHead}
-use Rattle.hx_head.specs.Heads.{IsAnswerAt}
 use Rattle.hx_frame.proofs.KindLemmas.{found_of_answer, bodiless, unknown_coding, answer_by_fields}
 use Rattle.hx_frame.proofs.body.body_of_answer.Goals as goal
 

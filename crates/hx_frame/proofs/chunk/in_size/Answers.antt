@@ -1,6 +1,5 @@
-use Rattle.std.proofs.Common.{◌≡◌, ◌≢◌, ℕ, ◌+◌, ◌*◌, ◌-◌, ◌^◌, ◌<◌, ◌≤◌, arith}
-use Rattle.std.proofs.lemmas.Bool.Decides.{nat_tests}
-use Rattle.hx_frame.proofs.SmallLemmas.{few_digits, top_of_digits}
+use Rattle.std.proofs.Common.{◌^◌, ◌<◌, arith}
+use Rattle.hx_frame.proofs.SmallLemmas.{top_of_digits}
 use Rattle.hx_frame.proofs.chunk.in_size.Goals as goal
 
 pub overflow_mul-result : goal.overflow_mul-result

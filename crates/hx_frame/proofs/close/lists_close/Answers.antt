@@ -1,4 +1,4 @@
-use Rattle.std.proofs.Common.{◌≡◌, suc, ◌||◌, Bool, drop, sym, ap, ◌∙◌, rules, add-one}
+use Rattle.std.proofs.Common.{suc, ◌||◌, Bool, drop, sym, ap, ◌∙◌, rules, add-one}
 use Rattle.std.proofs.lemmas.List.{take_rest}
 use Rattle.hx_frame.specs.Options.{lists_close}
 use Rattle.hx_frame.proofs.CloseLemmas.{close_at, close_whole}

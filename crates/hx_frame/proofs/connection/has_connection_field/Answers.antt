@@ -1,4 +1,4 @@
-use Rattle.std.proofs.Common.{◌≡◌, ◌<◌, length, map, arith, sym, ap, ◌∙◌, true, List, ℕ}
+use Rattle.std.proofs.Common.{◌<◌, length, map, arith, sym, ap, ◌∙◌}
 use Rattle.std.proofs.lemmas.List.{get_or-map, length-map}
 use Rattle.std.proofs.lemmas.List.Folds.{list_any_at}
 use Rattle.hx_head.specs.declared.head.FieldSpan.{FieldSpan}

@@ -1,4 +1,3 @@
-use Rattle.std.proofs.Common.{arith}
 use Rattle.std.specs.Prelude.{codes}
 use Rattle.hx_head.specs.declared.head.FieldSpan.{FieldSpan}
 use Rattle.hx_frame.proofs.FramingLemmas.{found_next}

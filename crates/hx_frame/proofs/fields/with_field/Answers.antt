@@ -1,6 +1,6 @@
-use Rattle.std.proofs.Common.{◌≡◌, ℕ, List, sym, ap, ◌∙◌}
+use Rattle.std.proofs.Common.{ℕ, List, sym, ap, ◌∙◌}
 use Rattle.std.specs.Str.{str_eq_ignore_ascii_case}
-use Rattle.hx_frame.proofs.FramingLemmas.{found_named, found_other}
+use Rattle.hx_frame.proofs.FramingLemmas.{found_named}
 use Rattle.hx_frame.proofs.fields.with_field.Goals as goal
 
 pub returns-then-is_same_name : goal.returns-then-is_same_name

@@ -1,5 +1,4 @@
-use Rattle.std.proofs.Common.{◌≡◌, ◌∙◌, sym, true, arith}
-use Rattle.std.proofs.lemmas.Bool.{true_from_ne_false}
+use Rattle.std.proofs.Common.{◌≡◌, ◌∙◌, sym, true}
 use Rattle.hx_frame.specs.Chunks.{is_over}
 use Rattle.hx_frame.proofs.RunLemmas.{stops_over, stops_whole}
 use Rattle.hx_frame.proofs.read.read_chunks.Goals as goal

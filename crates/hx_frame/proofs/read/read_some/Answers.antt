@@ -1,6 +1,6 @@
-use Rattle.std.proofs.Common.{◌≡◌, ◌<◌, ◌≤◌, ◌∙◌, false, sym, ap, subst, length, get_or, arith}
+use Rattle.std.proofs.Common.{◌≡◌, ◌∙◌, sym, ap, get_or, arith}
 use Rattle.hx_frame.specs.declared.state.ChunkState.{ChunkState}
-use Rattle.hx_frame.specs.Chunks.{step, is_over, read_chunks}
+use Rattle.hx_frame.specs.Chunks.{step, read_chunks}
 use Rattle.hx_frame.proofs.RunLemmas.{read_data, first_good, first_bad}
 use Rattle.hx_frame.proofs.read.read_some.Goals as goal
 use Rattle.hx_frame.proofs.read.read_some.Goals.{in_default-via-in-Start-1, in_default-via-in-Data+else-left-gt0}
