@@ -1,0 +1,14 @@
+use Rattle.std.proofs.Common.{sym, subst}
+use Rattle.hx_frame.specs.declared.state.ChunksRead.{ChunksRead}
+use Rattle.hx_frame.specs.declared.state.BodyState.{BodyState}
+use Rattle.hx_frame.specs.declared.state.BodyState.TheVariants.{Chunks}
+use Rattle.hx_frame.specs.States.{LeadsOn}
+use Rattle.hx_frame.proofs.MeterLemmas.{chunks_lead}
+use Rattle.hx_frame.proofs.read.read_body.Goals as goal
+
+pub returns-in-Chunks-clause-leads : goal.returns-in-Chunks-clause-leads
+returns-in-Chunks-clause-leads c =
+    let piece = c.args.piece.now in
+    subst (λ (s : BodyState). LeadsOn s piece c.read_chunks-read.result.used (Chunks c.read_chunks-read.result.state)) (sym c.in-Chunks.is)
+    (subst (λ (r : ChunksRead). LeadsOn (Chunks c.in-Chunks.state) piece r.used (Chunks r.state)) (sym c.read_chunks-read.ensures.read)
+    (chunks_lead c.in-Chunks.state piece))
