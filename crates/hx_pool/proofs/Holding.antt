@@ -23,11 +23,11 @@ use Rattle.hx_pool.proofs.Tables.{put_same, put_other, Sound, sound_empty, sound
 abbrev pub HoldsIn : Table → ThreadNo → ℕ → Option Hold → Type 0
 HoldsIn T t i o = (h : Hold) → o ≡ Some h → (T.conns i ≡ HeldBy t h.session) × (T.uses i ≡ h.uses)
 
-touched : (P : Option Hold → Type 0) (o new : Option Hold) (i k : ℕ) (b : Bool) → (k ≡ i → b ≡ true → P new) → (k ≡ i → b ≡ false → P o) → (k ≢ i → P o) → P (cond b (cond (eqb k i) new o) o)
+pub touched : (P : Option Hold → Type 0) (o new : Option Hold) (i k : ℕ) (b : Bool) → (k ≡ i → b ≡ true → P new) → (k ≡ i → b ≡ false → P o) → (k ≢ i → P o) → P (cond b (cond (eqb k i) new o) o)
 touched P o new i k true own other apart = dite (ℕ_discrete k i) (λ e. subst P (sym (ap (λ c. cond c new o) (eq-eqb k i e))) (own e refl)) (λ ne. subst P (sym (ap (λ c. cond c new o) (ne_eqb k i ne))) (apart ne))
 touched P o new i k false own other apart = dite (ℕ_discrete k i) (λ e. other e refl) (λ ne. apart ne)
 
-untouched : (P : Option Hold → Type 0) (o : Option Hold) (b : Bool) → P o → P (cond b o o)
+pub untouched : (P : Option Hold → Type 0) (o : Option Hold) (b : Bool) → P o → P (cond b o o)
 untouched P o true h = h
 untouched P o false h = h
 
@@ -50,7 +50,7 @@ uses_is : (n : SessionNo) (u : ℕ) (k : Hold) → hold n u ≡ Some k → u ≡
 unfolding uses_in
 uses_is n u k e = ap uses_in e
 
-same_thread : (u t : ThreadNo) → eqb u.0 t.0 ≡ true → u ≡ t
+pub same_thread : (u t : ThreadNo) → eqb u.0 t.0 ≡ true → u ≡ t
 same_thread u t e = ap (λ (n : ℕ). let r : ThreadNo = record { 0 = n } in r) (eqb-true u.0 t.0 e)
 
 pub holds_entry : (T : Table) (w : Option What) (e : Entry) (t : ThreadNo) (i : ℕ) (o : Option Hold) → Sound T → Needs T e → HoldsIn T t i o
@@ -81,7 +81,7 @@ holds_entry T w (SetGate u draining) t i o s need h = untouched (HoldsIn T t i) 
 holds_entry T w (Round u k old) t i o s need h = untouched (HoldsIn T t i) o (eqb u.0 t.0) h
 
 -- the hold over the own entries, one entry on
-own_step : (t : ThreadNo) (i : ℕ) (o : Option Hold) (x : Note) (xs : List Note) → hold_from i o (own_of t (x ∷ xs)) ≡ hold_from i (cond (eqb (thread_of x.entry).0 t.0) (hold_after i o x.entry) o) (own_of t xs)
+pub own_step : (t : ThreadNo) (i : ℕ) (o : Option Hold) (x : Note) (xs : List Note) → hold_from i o (own_of t (x ∷ xs)) ≡ hold_from i (cond (eqb (thread_of x.entry).0 t.0) (hold_after i o x.entry) o) (own_of t xs)
 own_step t i o x xs = elim (eqb (thread_of x.entry).0 t.0) as (λ b. hold_from i o (cond b (x ∷ own_of t xs) (own_of t xs)) ≡ hold_from i (cond b (hold_after i o x.entry) o) (own_of t xs)) [ true ↦ refl | false ↦ refl ]
 
 pub holds_along : (T : Table) (H : List Note) (t : ThreadNo) (i : ℕ) (o : Option Hold) → Sound T → EachStep MeetsNeeds T H → HoldsIn T t i o → HoldsIn (table_from T H) t i (hold_from i o (own_of t H))

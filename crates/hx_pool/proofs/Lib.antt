@@ -6,3 +6,9 @@ pub mod OneHistory
 pub mod Purges
 pub mod Journals
 pub mod Exchanges
+pub mod Resting
+pub mod Coverage
+pub mod Telling
+pub mod Rows
+pub mod Samples
+pub mod Owning

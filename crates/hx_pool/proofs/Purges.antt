@@ -40,7 +40,7 @@ takes_looks : (t : ThreadNo) (xs : List Note) → AllLooks t xs → takes_of xs 
 takes_looks t [] h = refl
 takes_looks t (x ∷ xs) h = ap (λ (y : Note). takes_of (y ∷ xs)) h.0.2 ∙ takes_looks t xs h.1
 
-le_cases : (a b : ℕ) → (a ≤ b) ⊎ (b < a)
+pub le_cases : (a b : ℕ) → (a ≤ b) ⊎ (b < a)
 le_cases zero b = inl (omega arith)
 le_cases (suc a) zero = inr (omega arith)
 le_cases (suc a) (suc b) = ⊎_elim (λ (h : a ≤ b). inl (omega arith)) (λ (h : b < a). inr (omega arith)) (le_cases a b)
