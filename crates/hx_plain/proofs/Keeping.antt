@@ -1,6 +1,6 @@
 -- What each call of the seat keeps: the drain, the totals, and that a call's entries are few.
-use Rattle.std.proofs.Common.{◌≡◌, ◌≢◌, ℕ, zero, suc, ◌+◌, ◌-◌, ◌<◌, ◌≤◌, Bool, true, false, List, [], ◌∷◌, ◌++◌, length, refl, sym, ap, ◌∙◌, subst, arith, Option, Some, None, inl, inr, ◌⊎◌, ⊎_elim, append_assoc}
-use Rattle.std.proofs.lemmas.List.{append-nil, length-append}
+use Rattle.std.proofs.Common.{◌≡◌, ◌≢◌, ℕ, zero, suc, ◌+◌, ◌-◌, ◌<◌, ◌≤◌, Bool, true, false, List, [], ◌∷◌, ◌++◌, length, refl, sym, ap, ◌∙◌, subst, arith, Option, Some, None, inl, ⊎_elim, append_assoc}
+use Rattle.std.proofs.lemmas.List.{append-nil}
 use Rattle.std.proofs.lemmas.Bool.{cases_eq}
 use Rattle.hx_base.specs.declared.numbers.ThreadNo.{ThreadNo}
 use Rattle.hx_base.specs.declared.numbers.SessionNo.{SessionNo}
@@ -14,8 +14,8 @@ use Rattle.hx_pool.specs.declared.entries.Entry.TheVariants.{Take, Free, Down, L
 use Rattle.hx_pool.specs.declared.entries.Note.{Note}
 use Rattle.hx_pool.specs.Table.{Spot, Vacant, found_of}
 use Rattle.hx_pool.specs.History.{plain, entries_of, marks_of, what_of}
-use Rattle.hx_pool.specs.SeatView.{About, History, IsOneHistory, Makes, Calls, Grows}
-use Rattle.hx_pool.specs.Causes.{place_of, Among, AllLooks, IsCovered, IsUnavailable}
+use Rattle.hx_pool.specs.SeatView.{About, IsOneHistory, Calls, Grows}
+use Rattle.hx_pool.specs.Causes.{place_of, Among, AllLooks, IsUnavailable}
 use Rattle.hx_pool.specs.Taking.{taking, Takes}
 use Rattle.hx_pool.specs.Drain.{since_after, since_from, since_drain}
 use Rattle.hx_pool.specs.Totals.{totals_after, totals_from}
@@ -25,7 +25,6 @@ use Rattle.hx_pool.proofs.Purges.{among_left, among_right, covered_left}
 use Rattle.hx_plain.specs.Book.{Book, add_notes}
 use Rattle.hx_plain.specs.Row.{Rested, spot_in, look_at, looks_run}
 use Rattle.hx_plain.specs.Plain.{alone, Known, Stands, Drains, KeepsAll}
-use Rattle.hx_plain.proofs.Looks.{run_looks, length-looks_run}
 use Rattle.hx_plain.proofs.Steps.{made, look_stands}
 
 abbrev pub IsNoDrain : Entry → Type 0

@@ -1,5 +1,5 @@
 -- The seat of one row: a value is taken out, and one is put in.
-use Rattle.std.proofs.Common.{◌≡◌, ◌≢◌, ℕ, suc, ◌+◌, ◌-◌, ◌*◌, ◌<◌, ◌≤◌, eqb, Bool, true, false, cond, List, [], ◌∷◌, ◌++◌, length, refl, sym, ap, ◌∙◌, subst, arith, Option, Some, None, IfSome, append_assoc, eq-eqb, ne_eqb, ⊎_elim}
+use Rattle.std.proofs.Common.{◌≡◌, ◌≢◌, ℕ, suc, ◌+◌, ◌-◌, ◌<◌, ◌≤◌, eqb, Bool, true, false, cond, List, [], ◌∷◌, ◌++◌, length, refl, sym, ap, ◌∙◌, subst, arith, Option, Some, None, IfSome, append_assoc, eq-eqb, ne_eqb, ⊎_elim}
 use Rattle.std.proofs.lemmas.List.{length-append}
 use Rattle.std.proofs.lemmas.Bool.{cases_eq}
 use Rattle.hx_base.specs.declared.numbers.ThreadNo.{ThreadNo}
@@ -7,19 +7,18 @@ use Rattle.hx_base.specs.declared.numbers.SessionNo.{SessionNo}
 use Rattle.hx_base.specs.declared.numbers.ServerNo.{ServerNo}
 use Rattle.hx_base.specs.declared.numbers.PlaceNo.{PlaceNo}
 use Rattle.hx_base.specs.declared.rules.Mode.TheVariants.{Never}
-use Rattle.hx_base.specs.declared.what.What.{What}
 use Rattle.hx_base.specs.Shown.{Shown}
 use Rattle.hx_pool.specs.declared.entries.Entry.{Entry}
 use Rattle.hx_pool.specs.declared.entries.Entry.TheVariants.{Park, Take, Free, Down}
 use Rattle.hx_pool.specs.declared.entries.Note.{Note}
 use Rattle.hx_pool.specs.Table.{Table, Spot, Vacant, Holds, Leaves, HeldBy, after, spot_no, spot_at}
-use Rattle.hx_pool.specs.History.{plain, table_after, IsLegal, opens_of}
-use Rattle.hx_pool.specs.Rules.{allows, IsBelowMax}
+use Rattle.hx_pool.specs.History.{plain, table_after, IsLegal}
+use Rattle.hx_pool.specs.Rules.{allows}
 use Rattle.hx_pool.specs.Held.{Has}
 use Rattle.hx_pool.specs.SeatView.{About, IsOneHistory}
 use Rattle.hx_pool.specs.Causes.{place_of}
 use Rattle.hx_pool.specs.Parking.{parked}
-use Rattle.hx_pool.specs.Taking.{taking, taken, last_park, park_after, park_from}
+use Rattle.hx_pool.specs.Taking.{taking, last_park, park_after, park_from}
 use Rattle.hx_plain.specs.Row.{Rested, spot_in}
 use Rattle.hx_plain.specs.Plain.{AreApart, AreKept, AreLater, AreRising, alone, Known, Stands}
 use Rattle.hx_pool.proofs.Histories.{opens_of-append}

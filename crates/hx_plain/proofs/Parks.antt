@@ -1,5 +1,5 @@
 -- The exits of a park.
-use Rattle.std.proofs.Common.{◌≡◌, ◌≢◌, ℕ, suc, ◌+◌, ◌-◌, ◌<◌, ◌≤◌, eqb, cond, Bool, true, false, List, [], ◌∷◌, ◌++◌, length, refl, sym, ap, ◌∙◌, subst, arith, Option, Some, IfSome, inl, inr, ◌⊎◌, ⊎_elim, append_assoc, map}
+use Rattle.std.proofs.Common.{◌≡◌, ◌≢◌, ℕ, ◌+◌, ◌-◌, ◌<◌, ◌≤◌, eqb, cond, Bool, true, false, List, [], ◌∷◌, ◌++◌, length, refl, sym, ap, ◌∙◌, subst, arith, Option, Some, IfSome, inl, ⊎_elim, append_assoc, map}
 use Rattle.std.proofs.lemmas.List.{length-append, length-map, map-append}
 use Rattle.std.proofs.lemmas.Bool.{eqb-true, or_cases}
 use Rattle.std.proofs.lemmas.Map.Steps.{length-le_from_distinct_below}
@@ -15,7 +15,7 @@ use Rattle.hx_pool.specs.declared.entries.Note.{Note}
 use Rattle.hx_pool.specs.declared.refusals.NoPark.{NoPark}
 use Rattle.hx_pool.specs.declared.refusals.NoPark.TheVariants.{Never, NoneKept, RowFull, Draining, PoolFull}
 use Rattle.hx_pool.specs.Table.{Vacant, Holds, found_of}
-use Rattle.hx_pool.specs.History.{plain, marks_of}
+use Rattle.hx_pool.specs.History.{plain}
 use Rattle.hx_pool.specs.SeatView.{About, Grows}
 use Rattle.hx_pool.specs.Causes.{place_of, Among, ShowsTaken}
 use Rattle.hx_pool.specs.Parking.{CanPark, KeepsSome, FindsVacant, Parks, RefusesPark, gated, parked}

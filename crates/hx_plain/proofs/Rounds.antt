@@ -1,17 +1,16 @@
 -- Purge intervals: a new one gives a quota, an old one none.
-use Rattle.std.proofs.Common.{◌≡◌, ◌≢◌, ℕ, ◌+◌, ◌-◌, ◌<◌, ◌≤◌, cond, Bool, true, false, List, [], ◌∷◌, ◌++◌, length, refl, sym, ap, ◌∙◌, subst, arith, Option, inl, inr, append_assoc}
+use Rattle.std.proofs.Common.{◌≡◌, ◌≢◌, ℕ, ◌-◌, ◌<◌, ◌≤◌, cond, Bool, List, [], ◌∷◌, ◌++◌, length, refl, sym, ap, subst, arith, Option, inr, append_assoc}
 use Rattle.std.proofs.lemmas.Bool.{le-ltb}
 use Rattle.std.specs.Prelude.{max}
 use Rattle.hx_base.specs.declared.numbers.Millis.{Millis}
 use Rattle.hx_base.specs.declared.totals.Totals.{Totals}
-use Rattle.hx_pool.specs.declared.entries.Entry.{Entry}
 use Rattle.hx_pool.specs.declared.entries.Entry.TheVariants.{Round, Count}
 use Rattle.hx_pool.specs.declared.entries.Note.{Note}
-use Rattle.hx_pool.specs.History.{plain, marks_of}
+use Rattle.hx_pool.specs.History.{plain}
 use Rattle.hx_pool.specs.SeatView.{About, Grows}
-use Rattle.hx_pool.specs.Purge.{round_at, round_raised, quota_of, GivesQuota, GivesNoQuota}
+use Rattle.hx_pool.specs.Purge.{round_at, quota_of, GivesQuota, GivesNoQuota}
 use Rattle.hx_plain.specs.Row.{Rested}
-use Rattle.hx_plain.specs.Plain.{alone, Known, known, Stands, KeepsAll}
+use Rattle.hx_plain.specs.Plain.{alone, known, Stands, KeepsAll}
 use Rattle.hx_plain.proofs.Steps.{round_stands, count_at}
 use Rattle.hx_plain.proofs.Keeping.{keeps_on, calls_by, grows_by}
 

@@ -1,19 +1,18 @@
 -- The seat of one row, one entry on.
-use Rattle.std.proofs.Common.{◌≡◌, ◌≢◌, ℕ, ◌+◌, ◌-◌, ◌<◌, ◌≤◌, eqb, Bool, true, false, cond, List, [], ◌∷◌, ◌++◌, length, refl, sym, ap, ◌∙◌, subst, arith, Option, Some, None, IfSome, eq-eqb}
+use Rattle.std.proofs.Common.{◌≡◌, ◌≢◌, ℕ, ◌+◌, ◌-◌, ◌<◌, ◌≤◌, eqb, Bool, cond, List, [], ◌∷◌, ◌++◌, length, refl, sym, ap, ◌∙◌, subst, arith, Option, Some, None, IfSome, eq-eqb}
 use Rattle.hx_base.specs.declared.numbers.ThreadNo.{ThreadNo}
 use Rattle.hx_base.specs.declared.numbers.SessionNo.{SessionNo}
 use Rattle.hx_base.specs.declared.numbers.ServerNo.{ServerNo}
 use Rattle.hx_base.specs.declared.numbers.ConnId.{ConnId}
 use Rattle.hx_base.specs.declared.rules.PoolRules.{PoolRules}
-use Rattle.hx_base.specs.declared.what.What.{What}
 use Rattle.hx_pool.specs.declared.entries.Entry.{Entry}
 use Rattle.hx_pool.specs.declared.entries.Entry.TheVariants.{Open, Close, Look, Up, Down, Count, Gate, SetGate, Round}
 use Rattle.hx_pool.specs.declared.entries.Note.{Note}
-use Rattle.hx_pool.specs.Table.{Table, Needs, after, empty_table, found_of, spot_at, HeldBy}
-use Rattle.hx_pool.specs.History.{plain, thread_of, own_of, is_by, table_from, table_after, EachStep, MeetsNeeds, what_of, opens_of, is_open}
+use Rattle.hx_pool.specs.Table.{Table, Needs, after, empty_table, found_of, spot_at}
+use Rattle.hx_pool.specs.History.{plain, thread_of, own_of, table_from, table_after, EachStep, MeetsNeeds, what_of, opens_of, is_open}
 use Rattle.hx_pool.specs.Rules.{MayFollow, IsBelowMax}
 use Rattle.hx_pool.specs.Held.{Has}
-use Rattle.hx_pool.specs.SeatView.{About, IsOneHistory, Makes, AllBelow}
+use Rattle.hx_pool.specs.SeatView.{About, IsOneHistory, Makes}
 use Rattle.hx_pool.specs.Causes.{place_of}
 use Rattle.hx_pool.specs.Taking.{park_after, park_from, last_park}
 use Rattle.hx_plain.specs.Row.{Rested, spot_in, look_at}

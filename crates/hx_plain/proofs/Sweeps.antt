@@ -1,5 +1,5 @@
 -- The caretaker's way through the row: what a drain and a purge take, and what they cover.
-use Rattle.std.proofs.Common.{◌≡◌, ◌≢◌, ℕ, zero, suc, ◌+◌, ◌-◌, ◌*◌, ◌/◌, ◌%◌, ◌<◌, ◌≤◌, Bool, true, false, List, [], ◌∷◌, ◌++◌, length, refl, sym, ap, ◌∙◌, subst, arith, Option, Some, None, IfSome, inl, inr, ◌⊎◌, ⊎_elim, append_assoc}
+use Rattle.std.proofs.Common.{◌≡◌, ◌≢◌, ℕ, zero, suc, ◌+◌, ◌-◌, ◌*◌, ◌/◌, ◌%◌, ◌<◌, ◌≤◌, Bool, false, List, [], ◌∷◌, ◌++◌, length, refl, sym, ap, ◌∙◌, subst, arith, Option, Some, None, IfSome, inl, inr, ◌⊎◌, ⊎_elim, append_assoc}
 use Rattle.std.proofs.lemmas.List.{append-nil, length-append}
 use Rattle.std.proofs.lemmas.Bool.{cases_eq}
 use Rattle.hx_base.specs.declared.numbers.ThreadNo.{ThreadNo}
@@ -7,24 +7,21 @@ use Rattle.hx_base.specs.declared.numbers.PlaceNo.{PlaceNo}
 use Rattle.hx_base.specs.declared.totals.Totals.{Totals}
 use Rattle.hx_base.specs.Shown.{Shown}
 use Rattle.hx_pool.specs.declared.budget.Quota.{Quota}
-use Rattle.hx_pool.specs.declared.entries.Found.{Found}
-use Rattle.hx_pool.specs.declared.entries.Found.TheVariants.{Resting}
-use Rattle.hx_pool.specs.declared.entries.Entry.{Entry}
 use Rattle.hx_pool.specs.declared.entries.Entry.TheVariants.{Take, Look}
 use Rattle.hx_pool.specs.declared.entries.Note.{Note}
 use Rattle.hx_pool.specs.Table.{Vacant}
 use Rattle.hx_pool.specs.History.{what_of}
 use Rattle.hx_pool.specs.SeatView.{About, Grows}
-use Rattle.hx_pool.specs.Causes.{place_of, nth_place, caretaker, Among, IsTakeAt, IsCovered, IsUnavailable, AllCovered}
+use Rattle.hx_pool.specs.Causes.{place_of, nth_place, caretaker, IsTakeAt, IsCovered, IsUnavailable, AllCovered}
 use Rattle.hx_pool.specs.Taking.{taking}
-use Rattle.hx_pool.specs.Drain.{since_drain, DrainsOne, DrainsNone}
-use Rattle.hx_pool.specs.Purge.{StandsAt, Passes, PurgesOne, PurgesNone}
+use Rattle.hx_pool.specs.Drain.{DrainsOne, DrainsNone}
+use Rattle.hx_pool.specs.Purge.{Passes, PurgesOne, PurgesNone}
 use Rattle.hx_pool.specs.Totals.{totals_after}
 use Rattle.hx_pool.proofs.Calls.{looks_marks, marks_taking}
-use Rattle.hx_pool.proofs.Purges.{among_left, among_right, covered_left, unavailable_by}
+use Rattle.hx_pool.proofs.Purges.{among_right, covered_left, unavailable_by}
 use Rattle.hx_plain.specs.Book.{Book, add_notes}
 use Rattle.hx_plain.specs.Row.{Rested, spot_in, looks_run, Ran, Swept}
-use Rattle.hx_plain.specs.Plain.{alone, Known, known, Stands, AreKept, Drains, KeepsAll}
+use Rattle.hx_plain.specs.Plain.{alone, Known, known, Stands, AreKept, KeepsAll}
 use Rattle.hx_plain.proofs.Looks.{run_looks, length-looks_run}
 use Rattle.hx_plain.proofs.Steps.{made}
 use Rattle.hx_plain.proofs.Rows.{kept_mid}

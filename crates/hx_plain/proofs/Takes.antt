@@ -9,18 +9,16 @@ use Rattle.hx_base.specs.declared.totals.Totals.{Totals}
 use Rattle.hx_base.specs.Shown.{Shown}
 use Rattle.hx_pool.specs.declared.entries.Entry.TheVariants.{Take}
 use Rattle.hx_pool.specs.declared.entries.Note.{Note}
-use Rattle.hx_pool.specs.Table.{Holds, spot_at}
-use Rattle.hx_pool.specs.History.{table_after, what_of}
+use Rattle.hx_pool.specs.History.{what_of}
 use Rattle.hx_pool.specs.Rules.{allows}
 use Rattle.hx_pool.specs.SeatView.{About}
 use Rattle.hx_pool.specs.Causes.{place_of}
 use Rattle.hx_pool.specs.Taking.{taking, TakesOwn, TakesNoneOwn, IsBest, is_preferred, is_safe, last_park}
 use Rattle.hx_pool.specs.Totals.{totals_after}
 use Rattle.hx_plain.specs.Book.{Book}
-use Rattle.hx_plain.specs.Row.{Rested, spot_in, fits, NoneFits, LastFits, BestFits, TookBest}
+use Rattle.hx_plain.specs.Row.{Rested, fits, NoneFits, BestFits, TookBest}
 use Rattle.hx_plain.specs.Plain.{alone, Known, known, Stands, AreApart, AreKept, AreRising, KeepsAll}
 use Rattle.hx_plain.proofs.Keeping.{keeps_on, takes_by}
-use Rattle.hx_plain.proofs.Steps.{made}
 use Rattle.hx_plain.proofs.Moves.{take_stands}
 use Rattle.hx_plain.proofs.Rows.{spot_from, kept_mid, before_mid}
 

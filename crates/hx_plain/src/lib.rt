@@ -10,5 +10,7 @@ mod rest;
 mod row;
 mod sweep;
 mod take;
+#[cfg(test)]
+mod tests;
 
 pub use plain::PlainSeat;

@@ -1,4 +1,4 @@
-use Rattle.std.proofs.Common.{◌≡◌, ℕ, Bool, true, false, not, ◌||◌, refl, ap, ◌∙◌}
+use Rattle.std.proofs.Common.{◌≡◌, Bool, true, false, refl, ap, ◌∙◌}
 use Rattle.hx_base.specs.declared.rules.Mode.{Mode}
 use Rattle.hx_base.specs.declared.rules.Mode.TheVariants as mode
 use Rattle.hx_pool.specs.Rules.{allows}

@@ -1,4 +1,4 @@
-use Rattle.std.proofs.Common.{false, ◌∙◌, sym, ap, refl, length, [], ◌∷◌, ◌+◌, Some}
+use Rattle.std.proofs.Common.{false, ◌∙◌, ap, refl, [], ◌∷◌, ◌+◌}
 use Rattle.std.specs.Vec.{vec_capacity}
 use Rattle.hx_pool.specs.Causes.{caretaker}
 use Rattle.hx_pool.specs.Totals.{totals_after}

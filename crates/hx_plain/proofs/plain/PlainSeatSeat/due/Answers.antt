@@ -1,4 +1,4 @@
-use Rattle.std.proofs.Common.{◌≡◌, ℕ, ◌∙◌, ◌/◌, sym, ap}
+use Rattle.std.proofs.Common.{ℕ, ◌∙◌, ◌/◌, sym, ap}
 use Rattle.std.proofs.lemmas.List.{length-map}
 use Rattle.std.specs.Vec.{vec_capacity}
 use Rattle.hx_plain.specs.PlainSeat.{about_alone}

@@ -1,4 +1,4 @@
-use Rattle.std.proofs.Common.{◌≡◌, ◌-◌, ◌≤◌, false, ◌∙◌, ap, refl, [], ◌∷◌, ◌+◌, inl, arith}
+use Rattle.std.proofs.Common.{◌-◌, false, ◌∙◌, ap, refl, [], ◌∷◌, ◌+◌, inl, arith}
 use Rattle.std.specs.Vec.{vec_capacity}
 use Rattle.hx_pool.specs.declared.budget.Quota.{Quota}
 use Rattle.hx_pool.specs.Causes.{caretaker}

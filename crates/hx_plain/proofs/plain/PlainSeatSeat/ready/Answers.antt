@@ -1,4 +1,4 @@
-use Rattle.std.proofs.Common.{◌≡◌, Bool, true, false, not, refl, sym, subst}
+use Rattle.std.proofs.Common.{◌≡◌, Bool, true, false, not, refl}
 use Rattle.hx_plain.proofs.Steps.{gate_stands}
 use Rattle.hx_plain.proofs.Keeping.{keeps_on, calls_by}
 use Rattle.hx_plain.proofs.plain.PlainSeatSeat.ready.Goals as goal
