@@ -89,14 +89,15 @@ pub enum Entry {
     },
 }
 
-/// An entry, and beside a Park what the parked value's link told. No value of it is made: contracts alone speak of it.
+/// An entry, and beside a Park what the parked value's link told. No value of it is made: contracts
+/// alone speak of it.
 pub struct Note {
     pub entry: Entry,
     pub what: Option<What>,
 }
 
-/// The marks of one call, of which there are at most two. Marks are the entries Open, Park, Take, Close and SetGate,
-/// and a Round that raised the interval.
+/// The marks of one call, of which there are at most two. Marks are the entries Open, Park, Take,
+/// Close and SetGate, and a Round that raised the interval.
 #[derive(Clone, Copy, PartialEq, Eq, Debug)]
 pub struct LastMarks {
     pub first: Option<Entry>,

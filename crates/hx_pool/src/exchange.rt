@@ -1,7 +1,7 @@
 //! A caller of any seat: one exchange on a new connection.
-ghost use Rattle.std.specs.Prelude.{◌≡◌, ◌≢◌, IfSome};
+ghost use Rattle.std.specs.Prelude.{◌≡◌, ◌≢◌, MatchOption};
 ghost use Rattle.hx_base.specs.declared.numbers.ServerNo.{ServerNo};
-ghost use Rattle.hx_pool.specs.Exchange.{Exchanges};
+ghost use Rattle.hx_pool.specs.Exchange.{Exchanges, GivesUp};
 
 use crate::seat::Seat;
 use hx_base::{ConnId, Faced, SessionNo};
@@ -16,8 +16,9 @@ pub trait Dials<V: Faced> {
         ensures server { (V.shows result).server ≡ server self.old };
 }
 
-/// Opens a connection for session `n`, uses it, parks it, takes one of the thread's row and closes that.
-/// None: where the seat had no number or no place left, or nothing was there to take.
+/// Opens a connection for session `n`, uses it, parks it, takes one of the thread's row and closes
+/// that. None: the seat had no number, or it refused the park and the connection was closed, or
+/// nothing was there to take.
 pub fn one_exchange<V: Faced, S: Seat<V>, D: Dials<V>>(
     seat: &mut S,
     dials: &mut D,
@@ -25,15 +26,22 @@ pub fn one_exchange<V: Faced, S: Seat<V>, D: Dials<V>>(
 ) -> Option<ConnId>
     requires session { n.0 ≢ 0 }
     requires server { D.server dials.old ≡ (S.history seat.old).about.server }
-    ensures { IfSome result (Exchanges (S.history seat.old) (S.history seat.new) n) }
+    ensures { MatchOption result
+        (GivesUp (S.history seat.old) (S.history seat.new) n)
+        (Exchanges (S.history seat.old) (S.history seat.new) n) }
 {
-    let Ok(opened) = seat.open_new(n) else {
-        return None;
+    let opened = match seat.open_new(n) {
+        Ok(id) => id,
+        Err(_) => return None,
     };
     let made = dials.dial(opened);
-    let Ok(_place) = seat.park(n, made) else {
-        return None;
-    };
+    match seat.park(n, made) {
+        Ok(_) => {}
+        Err(_) => {
+            seat.close(n, opened);
+            return None;
+        }
+    }
     let taken = seat.take_own(n, false)?;
     let id = taken.face().id;
     seat.close(n, id);

@@ -1,5 +1,6 @@
 //! A seat that stores the marks of its calls.
-ghost use Rattle.std.specs.Prelude.{◌≡◌, ◌+◌, ◌-◌, ◌≤◌, true, [], ◌++◌, length, option_to_list, OnOk};
+ghost use Rattle.std.specs.Prelude.{◌≡◌, ◌+◌, ◌-◌, ◌≤◌, true, [], ◌++◌, length, option_to_list};
+ghost use Rattle.std.specs.Prelude.{OnOk};
 ghost use Rattle.std.specs.Vec.{vec_capacity, vec_len};
 ghost use Rattle.hx_pool.specs.SeatView.{last_list};
 
@@ -56,7 +57,13 @@ impl<S: HasHistory> Model for JournalSeat<S> {
 
     ghost Value = { Journal };
 
-    ghost view = { λ j. record { history = S.history j.seat; last = S.last_marks j.seat; stored = j.stored.items; whole = j.whole; room = vec_capacity j.stored - vec_len j.stored } };
+    ghost view = { λ j. record {
+      history = S.history j.seat;
+      last = S.last_marks j.seat;
+      stored = j.stored.items;
+      whole = j.whole;
+      room = vec_capacity j.stored - vec_len j.stored;
+    } };
 
     ghost invariant = { λ j. EndsWithStored (S.history j.seat) j.stored.items j.whole };
 }
@@ -87,7 +94,8 @@ impl<S: HasHistory> JournalSeat<S> {
         Ok(())
     }
 
-    /// The stored marks: where the journal is whole, those of all calls since the last `clear`, in order.
+    /// The stored marks: where the journal is whole, those of all calls since the last `clear`, in
+    /// order.
     pub fn marks(&self) -> &[Entry]
         ensures stored { result.now ≡ self.now.stored }
         ensures recounts { RecountsMarks self.now }
