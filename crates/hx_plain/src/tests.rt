@@ -2,7 +2,7 @@
 
 use crate::plain::PlainSeat;
 use hx_base::{ConnId, Face, Faced, Millis, Mode, PoolRules, ServerNo, SessionNo};
-use hx_pool::{Dials, JournalSeat, one_exchange};
+use hx_pool::{Dials, JournalSeat, allowed, one_exchange};
 use std::test::Fail;
 
 #[derive(Drop)]
@@ -49,8 +49,24 @@ fn a_caller_of_any_seat_runs_over_a_journal(rt: HostRuntime) -> Result<(), Fail>
     );
     let mut seat = JournalSeat::new(rt.alloc(), made?);
     let mut cards = Cards;
+    assert!(rt; seat.reserve(2).is_ok());
     let closed = one_exchange(&mut seat, &mut cards, SessionNo(1));
     assert_eq!(rt; closed, Some(ConnId(1)));
     assert!(rt; seat.is_whole() && seat.marks().len() == 4);
+    seat.clear();
+    assert!(rt; seat.is_whole() && seat.marks().is_empty());
     Ok(())
+}
+
+#[test]
+fn the_mode_allows_what_the_manual_says(rt: HostRuntime) {
+    let table = [
+        (Mode::Safe, true, 9, false),
+        (Mode::Aggressive, true, 1, false),
+        (Mode::Aggressive, true, 2, true),
+        (Mode::Never, false, 2, false),
+    ];
+    for (mode, first, uses, want) in table {
+        assert_eq!(rt; allowed(mode, first, uses), want);
+    }
 }
