@@ -9,3 +9,4 @@ pub mod Takes
 pub mod Parks
 pub mod Sweeps
 pub mod Rounds
+pub mod Calling
