@@ -1,0 +1,65 @@
+-- What a caller of the seat keeps: the seat's server, and where a quota stands.
+use Rattle.std.proofs.Common.{◌≡◌, ℕ, ◌+◌, ◌-◌, ◌*◌, ◌%◌, ◌<◌, ◌≤◌, refl, sym, ap, ◌∙◌, subst, arith, Option, Some, None, Ok, Err, ⊎_elim}
+use Rattle.std.specs.Prelude.{Result, MatchOption, MatchResult}
+use Rattle.std.proofs.Math.Nat.{mod-eq_of_lt}
+use Rattle.hx_base.specs.declared.numbers.SessionNo.{SessionNo}
+use Rattle.hx_base.specs.declared.numbers.PlaceNo.{PlaceNo}
+use Rattle.hx_base.specs.declared.numbers.Millis.{Millis}
+use Rattle.hx_base.specs.Shown.{Shown}
+use Rattle.hx_pool.specs.declared.budget.Quota.{Quota}
+use Rattle.hx_pool.specs.declared.refusals.NoPark.{NoPark}
+use Rattle.hx_pool.specs.declared.refusals.NoPark.TheVariants.{Never, NoneKept, RowFull, Draining, PoolFull}
+use Rattle.hx_pool.specs.declared.refusals.NoneOver.{NoneOver}
+use Rattle.hx_pool.specs.declared.refusals.NoneOver.TheVariants.{NotAllowed, BelowLow, NoneSeen}
+use Rattle.hx_pool.specs.declared.refusals.Unparked.{Unparked}
+use Rattle.hx_pool.specs.SeatView.{About, History}
+use Rattle.hx_pool.specs.Causes.{place_of}
+use Rattle.hx_pool.specs.Parking.{Parks, RefusesPark, FindsDraining, TakesBack}
+use Rattle.hx_pool.specs.Takeover.{TakesOver, RefusesTakeover}
+use Rattle.hx_pool.specs.Drain.{DrainsOne, DrainsNone}
+use Rattle.hx_pool.specs.Purge.{GivesQuota, StandsAt, PurgesOne, PurgesNone, EndsPurge, quota_of, round_at}
+
+refuses_about : (old new : History) (n : SessionNo) (v : Shown) (why : NoPark) → RefusesPark old new n v why → new.about ≡ old.about
+refuses_about old new n v Never r = r.1.makes.about
+refuses_about old new n v NoneKept r = r.2.makes.about
+refuses_about old new n v RowFull r = r.2.looks.makes.about
+refuses_about old new n v Draining r = ⊎_elim (λ (f : FindsDraining old new). f.makes.makes.about) (λ (b : TakesBack old new n v). b.makes.makes.about) r.2
+refuses_about old new n v (PoolFull c) r = r.2.makes.makes.about
+
+pub park_about : {V : Type 0} (old new : History) (n : SessionNo) (v : Shown) (r : Result PlaceNo (Unparked V)) → MatchResult r (λ place. Parks old new n place v) (λ u. RefusesPark old new n v u.why) → new.about ≡ old.about
+park_about old new n v (Ok place) h = h.makes.makes.about
+park_about old new n v (Err u) h = refuses_about old new n v u.why h
+
+over_refused : (old new : History) (first : Rattle.std.proofs.Common.Bool) (why : NoneOver) → RefusesTakeover old new first why → new.about ≡ old.about
+over_refused old new first NotAllowed h = h.1.makes.about
+over_refused old new first (BelowLow c) h = h.2.makes.about
+over_refused old new first NoneSeen h = h.1.makes.makes.about
+
+pub over_about : {V : Type 0} (shows : V → Shown) (old new : History) (n : SessionNo) (first : Rattle.std.proofs.Common.Bool) (r : Result V NoneOver) → MatchResult r (λ v. TakesOver old new n first (shows v)) (λ why. RefusesTakeover old new first why) → new.about ≡ old.about
+over_about shows old new n first (Ok v) h = h.takes.makes.about
+over_about shows old new n first (Err why) h = over_refused old new first why h
+
+pub drain_about : {V : Type 0} (shows : V → Shown) (old new : History) (o : Option V) → MatchOption o (DrainsNone old new) (λ v. DrainsOne old new (shows v)) → new.about ≡ old.about
+drain_about shows old new None h = h.looks.makes.about
+drain_about shows old new (Some v) h = h.takes.makes.about
+
+-- a new quota names the own row's first place
+pub fresh_stands : (old new : History) (now : Millis) (q : Quota) → GivesQuota old new now q → StandsAt new.about q
+fresh_stands old new now q h =
+    let m = h.makes.makes in
+    let a = new.about in
+    let zero-on : a.thread.0 + 0 ≡ a.thread.0 = omega arith in
+    let row : (a.thread.0 + 0) % a.threads ≡ a.thread.0 = ap (λ (x : ℕ). x % a.threads) zero-on ∙ mod-eq_of_lt m.one.inside.0 in
+    let P : About → Type 0 = λ b. let r : Quota = record { left = quota_of h.c (round_at old.about now - h.was); row = b.thread.0; place = 0; seen = 0 } in StandsAt a r in
+    let base : P a = record { inside = omega arith; at = λ _. ap (λ (x : ℕ). place_of x 0) (sym row) } in
+    subst (λ (r : Quota). StandsAt a r) (sym h.answer) (subst P m.about base)
+
+ended : (old new : History) (q r : Quota) → EndsPurge old new q r → StandsAt new.about r
+ended old new q r e = subst (λ (a : About). StandsAt a r) (sym e.makes.makes.about) (let s = e.seen in record { inside = omega arith; at = λ h. absurd (omega arith) })
+
+pub purge_stands : {V : Type 0} (shows : V → Shown) (old new : History) (q r : Quota) (o : Option V) → MatchOption o (PurgesNone old new q r) (λ v. PurgesOne old new q r (shows v)) → StandsAt old.about q → StandsAt new.about r
+purge_stands shows old new q r (Some v) h s = subst (λ (a : About). StandsAt a r) (sym h.takes.makes.about) h.stands
+purge_stands shows old new q r None h s = ⊎_elim
+    (λ u. subst (λ (a : About). StandsAt a r) (sym u.2.makes.about) (subst (λ (k : Quota). StandsAt old.about k) (sym u.1) s))
+    (λ u. ended old new q r u.1)
+    h

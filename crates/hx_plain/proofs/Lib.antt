@@ -1,0 +1,12 @@
+pub mod Looks
+pub mod Removals
+pub mod Rows
+pub mod Steps
+pub mod Chosen
+pub mod Moves
+pub mod Keeping
+pub mod Takes
+pub mod Parks
+pub mod Sweeps
+pub mod Rounds
+pub mod Calling

@@ -1,0 +1,18 @@
+use Rattle.std.proofs.Common.{refl, true, sym, ◌∙◌}
+use Rattle.hx_plain.specs.PlainSeat.{about_alone}
+use Rattle.hx_pool.proofs.Histories.{totals_more}
+use Rattle.hx_plain.proofs.Steps.{set_gate_stands, made}
+use Rattle.hx_plain.proofs.Keeping.{drains_anew}
+use Rattle.hx_plain.proofs.plain.PlainSeatSeat.set_drain.Goals as goal
+
+pub invariant_of-self : goal.invariant_of-self
+invariant_of-self g c =
+    let s = c.self.invariant in
+    let t = set_gate_stands _ _ _ _ s.stands true in
+    rw c.write.ensures (record { stands = t; drains = drains_anew (about_alone c.self.inside.server c.self.inside.rules c.self.inside.start c.self.inside.ledger.board) c.self.inside.ledger.notes; counted = s.counted ∙ sym (totals_more c.self.inside.ledger.notes _); roomy = s.roomy })
+
+pub returns-clause-answer : goal.returns-clause-answer
+returns-clause-answer g c =
+    let s = c.self.invariant.stands in
+    let t = set_gate_stands _ _ _ _ s true in
+    rw (← c.self.view_is, c.write.ensures) (record { makes = made _ _ _ c.self.inside.ledger.notes _ s.one t.one; passed = refl })

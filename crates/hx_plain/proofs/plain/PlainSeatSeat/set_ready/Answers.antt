@@ -1,0 +1,19 @@
+use Rattle.std.proofs.Common.{refl, false, arith}
+use Rattle.hx_plain.proofs.Steps.{set_gate_stands}
+use Rattle.hx_plain.proofs.Keeping.{keeps_on, calls_by, grows_by}
+use Rattle.hx_plain.proofs.plain.PlainSeatSeat.set_ready.Goals as goal
+
+pub invariant_of-self : goal.invariant_of-self
+invariant_of-self g c =
+    let s = c.self.invariant in
+    let t = set_gate_stands _ _ _ _ s.stands false in
+    rw c.write.ensures (keeps_on _ c.self.inside.ledger.notes _ _ _ _ _ s _ _ _ _ _ t (refl, tt) refl s.roomy)
+
+pub returns-clause-answer : goal.returns-clause-answer
+returns-clause-answer g c =
+    let s = c.self.invariant.stands in
+    let t = set_gate_stands _ _ _ _ s false in
+    rw (← c.self.view_is, c.write.ensures) (calls_by _ _ c.self.inside.ledger.notes _ s.one t.one)
+
+pub returns-clause-grows : goal.returns-clause-grows
+returns-clause-grows g c = rw (← c.self.view_is, c.write.ensures) (grows_by _ _ _ c.self.inside.ledger.notes _ _ c.one_mark-self-inside.ensures (omega arith))

@@ -1,0 +1,4 @@
+pub mod Book
+pub mod Plain
+pub mod PlainSeat
+pub mod Row

@@ -1,0 +1,16 @@
+//! The seat of one thread at a board of one row: it has the places to itself, and a table of its own for its history.
+#![tactic(auto)]
+
+mod admit;
+mod choice;
+mod ledger;
+mod marks;
+mod plain;
+mod rest;
+mod row;
+mod sweep;
+mod take;
+#[cfg(test)]
+mod tests;
+
+pub use plain::PlainSeat;

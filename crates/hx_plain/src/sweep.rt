@@ -1,0 +1,58 @@
+//! The caretaker's way through the own row.
+ghost use Rattle.std.specs.Prelude.{◌≡◌, ◌+◌, ◌-◌, ◌≤◌, MatchOption, true, false};
+ghost use Rattle.std.specs.Vec.{vec_capacity};
+ghost use Rattle.hx_pool.specs.Purge.{quota_of};
+ghost use Rattle.hx_plain.specs.Row.{rests_of, Ran, Swept};
+
+use crate::ledger::Ledger;
+use crate::rest::Rest;
+use crate::row::look_for_resting;
+use crate::take::{Taker, leave};
+use hx_base::{Faced, SessionNo, ThreadNo};
+use hx_pool::Quota;
+
+/// The session number under which a purge or a drain takes.
+pub(crate) const CARETAKER: SessionNo = SessionNo(0);
+
+pub(crate) fn caretaker_of(t: ThreadNo) -> Taker
+    ensures { result ≡ record { t = t; n = record { 0 = 0 }; first = false } }
+{
+    Taker {
+        t,
+        n: CARETAKER,
+        first: false,
+    }
+}
+
+/// Takes the first value that rests from this place on. The number is how many vacant places were passed before it.
+pub(crate) fn sweep<V: Faced>(
+    ledger: &mut Ledger,
+    resting: &mut Vec<Rest<V>>,
+    t: ThreadNo,
+    from: u8,
+) -> Option<(u8, Rest<V>)>
+    requires { from ≤ 64 }
+    ensures swept { MatchOption result (Ran ledger.old ledger.new t (rests_of V.shows resting.old.items) from (64 - from) × (resting.new.items ≡ resting.old.items)) (λ r. (r.1.place ≡ from + r.0) × Swept ledger.old ledger.new (rests_of V.shows resting.old.items) (rests_of V.shows resting.new.items) t from r.0 (V.shows r.1.v)) }
+    ensures room { vec_capacity resting.new ≡ vec_capacity resting.old }
+{
+    let Some((passed, i)) = look_for_resting(ledger, resting.as_slice(), t, from) else {
+        return None;
+    };
+    let count = resting.len() as u64;
+    let rest = resting.remove(i);
+    let face = rest.v.face();
+    leave(ledger, caretaker_of(t), rest.place, face, count);
+    Some((passed, rest))
+}
+
+/// How many of these resting connections are to be closed after so many intervals: each leaves half of the rest.
+pub(crate) fn quota_after(t: ThreadNo, count: u64, intervals: u64) -> Quota
+    ensures { result ≡ record { left = quota_of count intervals; row = t.0; place = 0; seen = 0 } }
+{
+    Quota {
+        left: count - (count >> intervals.min(63)),
+        row: t.0,
+        place: 0,
+        seen: 0,
+    }
+}
