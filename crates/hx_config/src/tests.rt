@@ -58,16 +58,16 @@ fn a_usual_file(rt: HostRuntime) -> Result<(), Fail> {
     }
     assert_eq!(rt; config.fronts.as_slice().len(), 1);
     assert_eq!(rt; config.backs.as_slice().len(), 1);
-    let low = [0, 2, 0];
+    let rows = [("a", 0, 1, 0), ("b", 1, 2, 2), ("c", 2, 3, 0)];
     for back in config.backs.as_slice() {
         assert_eq!(rt; back.name.as_slice(), b"app".as_slice());
         assert_eq!(rt; back.connect, Some(Millis(5000)));
         assert_eq!(rt; back.server, Some(Millis(50_000)));
         assert_eq!(rt; back.servers.as_slice().len(), 3);
-        for (server, (low, at)) in back.servers.as_slice().iter().zip(low.iter().zip(0..3u8)) {
-            assert_eq!(rt; server.name.as_slice(), [b'a' + at].as_slice());
-            assert_eq!(rt; server.no, ServerNo(at as u16));
-            let host = Host::V4(10, 0, 0, at + 1);
+        for (server, (name, no, last, low)) in back.servers.as_slice().iter().zip(&rows) {
+            assert_eq!(rt; server.name.as_slice(), name.as_bytes());
+            assert_eq!(rt; server.no, ServerNo(*no));
+            let host = Host::V4(10, 0, 0, *last);
             assert_eq!(rt; server.address, Address { host, port: 8080 });
             let rules = PoolRules {
                 mode: Mode::Safe,
@@ -199,13 +199,13 @@ fn repeated(alloc: Global, head: &str, line: &str, times: u32) -> Result<Vec<u8>
 #[test]
 fn limits(rt: HostRuntime) -> Result<(), Fail> {
     let head = "listen a\n server s 1.1.1.1:10\n";
-    for (line, most, at) in [(" bind :1\n", 16, 19), ("#\n", 131_057, 1)] {
+    for (line, most, more, at) in [(" bind :1\n", 16, 17, 19), ("#\n", 131_057, 131_058, 1)] {
         let text = repeated(rt.alloc(), head, line, most)?;
         assert!(rt;
             read_config(rt.alloc(), &text).is_ok(),
             "{most} are few enough"
         );
-        let text = repeated(rt.alloc(), head, line, most + 1)?;
+        let text = repeated(rt.alloc(), head, line, more)?;
         match read_config(rt.alloc(), &text) {
             Err(fault) => assert_eq!(rt; fault, ConfigFault::At { line: at, rule: 10 }),
             Ok(_) => assert!(rt; false, "one too many is refused"),
