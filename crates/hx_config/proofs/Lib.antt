@@ -1,0 +1,9 @@
+pub mod Choices
+pub mod Cuts
+pub mod Endings
+pub mod Finishing
+pub mod Lexing
+pub mod ReadLines
+pub mod Soundness
+pub mod Values
+pub mod Whole

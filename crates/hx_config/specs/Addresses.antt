@@ -1,0 +1,76 @@
+-- Addresses and names (HAProxy 2.4 Configuration Manual, sections 2.1, 4.2 and 5.2).
+use Rattle.std.specs.Prelude.{ℕ, ◌≤◌, Bool, true, false, ◌&&◌, ◌||◌, not, List, [], ◌∷◌, length, Option, Some, None, Result, Ok, Err, if◌then◌else◌, ◌==◌, nat_le, nat_lt, bytes_eq, codes}
+use Rattle.std.specs.List.{list_all}
+use Rattle.hx_config.specs.declared.fault.Rule.{Rule}
+use Rattle.hx_config.specs.declared.fault.Rule.TheVariants.{BadAddress, UnknownWord}
+use Rattle.hx_config.specs.declared.parts.Host.{Host}
+use Rattle.hx_config.specs.declared.parts.Host.TheVariants as host
+use Rattle.hx_config.specs.declared.parts.Address.{Address}
+use Rattle.hx_config.specs.Faults.{◌>>=◌}
+use Rattle.hx_config.specs.Numbers.{is_digit, bounded}
+
+abbrev pub before : ℕ → Result (List ℕ × List ℕ) Rule → Result (List ℕ × List ℕ) Rule
+before b read = read >>= λ x. Ok (b ∷ x.0, x.1)
+
+-- what stands before the first such byte, and behind it
+unfoldable pub cut_at : ℕ → List ℕ → Result (List ℕ × List ℕ) Rule
+cut_at mark [] = Err BadAddress
+cut_at mark (b ∷ bs) = if b == mark then Ok ([], bs) else before b (cut_at mark bs)
+
+-- no zero stands before other digits
+abbrev pub is_plain : List ℕ → Bool
+is_plain [] = true
+is_plain (b ∷ []) = true
+is_plain (b ∷ c ∷ bs) = not (b == 48)
+
+-- a number of an IPv4 address
+abbrev pub octet : List ℕ → Result ℕ Rule
+octet w = if is_plain w then bounded BadAddress 0 255 w else Err BadAddress
+
+-- four numbers parted by dots
+abbrev pub dotted : List ℕ → Result Host Rule
+dotted w = do
+  a ← cut_at 46 w
+  b ← cut_at 46 a.1
+  c ← cut_at 46 b.1
+  first ← octet a.0
+  second ← octet b.0
+  third ← octet c.0
+  fourth ← octet c.1
+  Ok (host.V4 first second third fourth)
+
+-- a host to connect to
+abbrev pub server_host : List ℕ → Result Host Rule
+server_host w = if bytes_eq w (codes "localhost") then Ok host.Local else dotted w
+
+-- a host to listen on
+abbrev pub bind_host : List ℕ → Result Host Rule
+bind_host w = if bytes_eq w [] || bytes_eq w (codes "*") then Ok host.Any else server_host w
+
+abbrev pub port_of : List ℕ → Result ℕ Rule
+port_of w = bounded BadAddress 1 65535 w
+
+-- a host, a colon and a port
+unfoldable pub server_address : List ℕ → Result Address Rule
+server_address w = do
+  x ← cut_at 58 w
+  at ← server_host x.0
+  port ← port_of x.1
+  Ok (record { host = at; port = port })
+
+unfoldable pub bind_address : List ℕ → Result Address Rule
+bind_address w = do
+  x ← cut_at 58 w
+  at ← bind_host x.0
+  port ← port_of x.1
+  Ok (record { host = at; port = port })
+
+-- a letter, a digit, `-`, `_`, `.` or `:`
+abbrev pub is_name_byte : ℕ → Bool
+is_name_byte b =
+    (nat_le 97 b && nat_le b 122) || ((nat_le 65 b && nat_le b 90) || (is_digit b
+    || (b == 45 || (b == 95 || (b == 46 || b == 58)))))
+
+-- a name
+abbrev pub name_of : List ℕ → Result (List ℕ) Rule
+name_of w = if list_all is_name_byte w then Ok w else Err UnknownWord

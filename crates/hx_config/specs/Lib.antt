@@ -1,0 +1,13 @@
+pub mod Addresses
+pub mod Faults
+pub mod Keywords
+pub mod Lexical
+pub mod Limits
+pub mod Meaning
+pub mod Numbers
+pub mod Options
+pub mod Places
+pub mod Sections
+pub mod Statements
+pub mod Views
+pub mod Sound
