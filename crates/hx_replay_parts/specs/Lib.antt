@@ -1,0 +1,16 @@
+pub mod FirstForm
+pub mod FirstMessages
+pub mod FirstRun
+pub mod FirstText
+pub mod Replays
+pub mod TrueTranscript
+pub mod FirstHistory
+pub mod ServerConns
+pub mod MessageParts
+pub mod FormParts
+pub mod Texts
+pub mod LinkSteps
+pub mod Exchanges
+pub mod FirstTruth
+pub mod FirstPlans
+pub mod FirstReplay
