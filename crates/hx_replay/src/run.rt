@@ -1,0 +1,80 @@
+//! A run of the program.
+ghost use Rattle.std.specs.Prelude.{◌≡◌, ◌≤◌, ◌⊎◌, ◌∷◌, [], ℕ, length, codes, IfSome};
+ghost use Rattle.hx_base.specs.Counts.{Rose};
+ghost use Rattle.hx_link.specs.Whole.{WritesAll};
+ghost use Rattle.hx_replay.specs.Commands.{words_of, NoCommand};
+ghost use Rattle.hx_replay.specs.Endings.{HasCause, IsRun, IsDone, IsUnbuilt, Replayed, usage_text, unbuilt_text, text_of, IsReplayOf};
+
+use crate::command::{Command, command_of};
+use crate::ending::{Ending, status, text};
+use hx_link::{ReadFault, Sink, Source, read_all, write_all};
+use hx_replay_parts::{MOST_SCRIPT, replay_text};
+use std::alloc::Global;
+
+/// A replay of these bytes.
+fn replay(alloc: Global, bytes: &[u8]) -> Ending
+    ensures { IsReplayOf bytes.now result }
+{
+    match replay_text(alloc, bytes) {
+        Ok(Some(text)) => Ending::Done(text),
+        Ok(None) => Ending::Unbuilt,
+        Err(_) => Ending::NoMemory,
+    }
+}
+
+fn replay_source<S: Source>(alloc: Global, source: &mut S) -> Ending
+    ensures { HasCause (codes "replay" ∷ []) (S.state source.old) (S.state source.new) result }
+{
+    match read_all(alloc, source, MOST_SCRIPT) {
+        Ok(bytes) => {
+            if bytes.len() > MOST_SCRIPT {
+                Ending::Unbuilt
+            } else {
+                replay(alloc, bytes.as_slice())
+            }
+        }
+        Err(ReadFault::Fault) => Ending::SourceFault,
+        Err(ReadFault::NoMemory) => Ending::NoMemory,
+    }
+}
+
+fn run<S: Source>(alloc: Global, words: &[String], source: &mut S) -> Ending
+    ensures { HasCause (words_of words.now) (S.state source.old) (S.state source.new) result }
+{
+    match command_of(words) {
+        None => Ending::Usage,
+        Some(Command::Replay) => replay_source(alloc, source),
+        Some(Command::Check) | Some(Command::Drill) => Ending::Unbuilt,
+    }
+}
+
+/// The program: it does what the words ask for, and answers the status.
+///
+/// 0 a transcript was printed; 1 the words are no command; 2 the source failed; 3 the sink failed; 8 what is asked for
+/// isn't built yet; 9 want of memory.
+pub fn replay_main<R, S: Source, K: Sink>(
+    rt: &R,
+    alloc: Global,
+    words: &[String],
+    source: &mut S,
+    sink: &mut K,
+) -> u8
+    ensures run { IsRun (words_of words.now) (S.state source.old) (S.state source.new) (K.state sink.old) (K.state sink.new) result }
+    ensures done { result ≡ 0
+        → IsDone (words_of words.now) (S.state source.old) (S.state source.new) (K.state sink.old) (K.state sink.new) }
+    ensures usage { result ≡ 1 → NoCommand (words_of words.now) × WritesAll (K.state sink.old) (K.state sink.new) usage_text }
+    ensures source { result ≡ 2
+        → Rose (S.state source.old).faults (S.state source.new).faults × (K.state sink.new ≡ K.state sink.old) }
+    ensures sink { result ≡ 3 → Rose (K.state sink.old).faults (K.state sink.new).faults }
+    ensures unbuilt { result ≡ 8
+        → IsUnbuilt (words_of words.now) (S.state source.old) (S.state source.new)
+        × WritesAll (K.state sink.old) (K.state sink.new) unbuilt_text }
+    ensures known { (result ≡ 0) ⊎ (result ≡ 1) ⊎ (result ≡ 2) ⊎ (result ≡ 3) ⊎ (result ≡ 8) ⊎ (result ≡ 9) }
+{
+    let _rt = rt;
+    let ending = run(alloc, words, source);
+    match write_all(sink, text(&ending)) {
+        Ok(()) => status(&ending),
+        Err(_) => 3,
+    }
+}
