@@ -2,8 +2,9 @@
 ghost use Rattle.std.specs.Prelude.{◌≡◌, IfOk};
 
 use crate::replay_main;
-use hx_link::{MemorySink, MemorySource};
+use hx_link::{MemorySink, MemorySource, Reading, Writing};
 use std::alloc::Global;
+use std::io::{self, Read, Write};
 use std::test::Fail;
 
 const SCRIPT: &str = "hx-script 1
@@ -140,6 +141,199 @@ fn a_failing_source_or_sink_has_its_own_status(rt: HostRuntime) -> Result<(), Fa
         let ran = run(&rt, "replay", SCRIPT, fails)?;
         assert_eq!(rt; ran.status, status);
         assert!(rt; ran.text.is_empty());
+    }
+    Ok(())
+}
+
+/// A script of this request, this answer and these numbers.
+fn script_of(
+    alloc: Global,
+    ask: &str,
+    gave: &str,
+    sent: &str,
+    answer: &str,
+) -> Result<String, Fail> {
+    let mut text = String::new(alloc);
+    for part in [
+        "hx-script 1\nconfig 4\nlisten web\n  bind :8080\n  http-reuse always\n",
+        "  server s1 127.0.0.1:9001\nclient web 0 0\npiece 0 0 \"",
+        ask,
+        "\"\nend 0 ",
+        gave,
+        "\nserver web/s1\npiece 0 ",
+        sent,
+        " \"",
+        answer,
+        "\"\n",
+    ] {
+        text.push_str(part)?;
+    }
+    Ok(text)
+}
+
+const ASK: &str = "GET /a HTTP/1.1\\r\\nHost: h\\r\\n\\r\\n";
+
+const ANSWER: &str = "HTTP/1.1 200 OK\\r\\nContent-Length: 2\\r\\n\\r\\nhi";
+
+#[test]
+fn other_messages_of_the_form_pass_and_the_rest_is_not_built(rt: HostRuntime) -> Result<(), Fail> {
+    for (ask, gave, sent, answer, status) in [
+        (ASK, "40", "28", ANSWER, 0),
+        // Another host and another field.
+        (
+            "GET / HTTP/1.1\\r\\nHost: x.org\\r\\nA: b\\r\\n\\r\\n",
+            "40",
+            "37",
+            ANSWER,
+            0,
+        ),
+        // Lengths of no byte, of one, and of seven digits.
+        (
+            ASK,
+            "38",
+            "28",
+            "HTTP/1.1 200 OK\\r\\nContent-Length: 0\\r\\n\\r\\n",
+            0,
+        ),
+        (
+            ASK,
+            "39",
+            "28",
+            "HTTP/1.1 200 OK\\r\\nContent-Length: 1\\r\\n\\r\\nh",
+            0,
+        ),
+        (
+            ASK,
+            "46",
+            "28",
+            "HTTP/1.1 200 OK\\r\\nContent-Length: 0000002\\r\\n\\r\\nhi",
+            0,
+        ),
+        (
+            ASK,
+            "47",
+            "28",
+            "HTTP/1.1 200 OK\\r\\nContent-Length: 00000002\\r\\n\\r\\nhi",
+            8,
+        ),
+        // Another method, no host, two hosts, a body, a field of one connection.
+        (
+            "PUT /a HTTP/1.1\\r\\nHost: h\\r\\n\\r\\n",
+            "40",
+            "28",
+            ANSWER,
+            8,
+        ),
+        ("GET /a HTTP/1.1\\r\\n\\r\\n", "40", "19", ANSWER, 8),
+        (
+            "GET /a HTTP/1.1\\r\\nHost: h\\r\\nHost: h\\r\\n\\r\\n",
+            "40",
+            "37",
+            ANSWER,
+            8,
+        ),
+        (
+            "GET /a HTTP/1.1\\r\\nHost: h\\r\\nContent-Length: 1\\r\\n\\r\\nx",
+            "40",
+            "47",
+            ANSWER,
+            8,
+        ),
+        (
+            "GET /a HTTP/1.1\\r\\nHost: h\\r\\nConnection: close\\r\\n\\r\\n",
+            "40",
+            "28",
+            ANSWER,
+            8,
+        ),
+        // Other numbers.
+        (ASK, "41", "28", ANSWER, 8),
+        (ASK, "40", "27", ANSWER, 8),
+        (ASK, "040", "28", ANSWER, 8),
+        // Another status, a longer body, no length.
+        (
+            ASK,
+            "47",
+            "28",
+            "HTTP/1.1 404 Not Found\\r\\nContent-Length: 2\\r\\n\\r\\nhi",
+            8,
+        ),
+        (
+            ASK,
+            "41",
+            "28",
+            "HTTP/1.1 200 OK\\r\\nContent-Length: 2\\r\\n\\r\\nhi!",
+            8,
+        ),
+        (ASK, "21", "28", "HTTP/1.1 200 OK\\r\\n\\r\\nhi", 8),
+    ] {
+        let script = script_of(rt.alloc(), ask, gave, sent, answer)?;
+        let ran = run(&rt, "replay", script.as_str(), NEVER)?;
+        assert_eq!(rt; (answer, ran.status), (answer, status));
+    }
+    Ok(())
+}
+
+/// Gives one byte a read.
+#[derive(Drop)]
+struct OneByteReader<'a> {
+    left: &'a [u8],
+}
+
+impl Read for OneByteReader<'_> {
+    fn read(&mut self, buf: &mut [u8]) -> io::Result<usize> {
+        if buf.is_empty() || self.left.is_empty() {
+            return Ok(0);
+        }
+        buf[0] = self.left[0];
+        self.left = &self.left[1..];
+        Ok(1)
+    }
+}
+
+/// Takes one byte a write, up to the write that fails.
+#[derive(Drop)]
+struct OneByteWriter {
+    taken: Vec<u8>,
+    last: usize,
+}
+
+impl Write for OneByteWriter {
+    fn write(&mut self, buf: &[u8]) -> io::Result<usize> {
+        if buf.is_empty() {
+            return Ok(0);
+        }
+        if self.taken.len() == self.last {
+            return Err(io::Error::from(io::ErrorKind::Other));
+        }
+        self.taken.push(buf[0])?;
+        Ok(1)
+    }
+
+    fn flush(&mut self) -> io::Result<()> {
+        Ok(())
+    }
+}
+
+#[test]
+fn one_byte_a_read_and_one_a_write_give_the_same(rt: HostRuntime) -> Result<(), Fail> {
+    let alloc = rt.alloc();
+    for (last, status, taken) in [(4096, 0, TRANSCRIPT), (1, 3, "h"), (0, 3, "")] {
+        let mut words = Vec::new(alloc);
+        words.push("replay".to_string(alloc)?)?;
+        let mut source = Reading::new(OneByteReader {
+            left: SCRIPT.as_bytes(),
+        });
+        let mut writer = OneByteWriter {
+            taken: Vec::new(alloc),
+            last,
+        };
+        let mut sink = Writing::new(&mut writer);
+        assert_eq!(rt;
+            replay_main(&rt, alloc, words.as_slice(), &mut source, &mut sink),
+            status
+        );
+        assert_eq!(rt; writer.taken.as_slice(), taken.as_bytes());
     }
     Ok(())
 }
