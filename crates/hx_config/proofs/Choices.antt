@@ -1,5 +1,5 @@
 -- Options one after the other.
-use Rattle.std.proofs.Common.{◌≡◌, ◌≢◌, ℕ, ◌<◌, Bool, true, false, List, [], ◌∷◌, length, Option, Some, None, Result, Ok, Err, refl, sym, ap, ◌∙◌, arith}
+use Rattle.std.proofs.Common.{◌≡◌, ◌≢◌, ℕ, ◌<◌, List, [], ◌∷◌, length, Result, Ok, Err, refl, sym, ap, ◌∙◌, arith}
 use Rattle.std.specs.Prelude.{IfOk}
 use Rattle.std.proofs.lemmas.Result.{IfOk-at_ok}
 use Rattle.hx_config.specs.declared.fault.Rule.{Rule}
@@ -11,7 +11,7 @@ use Rattle.hx_config.specs.declared.options.ServerOption.TheVariants as option
 use Rattle.hx_config.specs.declared.options.Chosen.{Chosen}
 use Rattle.hx_config.specs.Faults.{◌>>=◌, Refuses}
 use Rattle.hx_config.specs.Lexical.{with_rest, word_at, ascii_word}
-use Rattle.hx_config.specs.Options.{option_at, known, option_words, after_option, one_option, going_on, with_value, chosen_by}
+use Rattle.hx_config.specs.Options.{known, option_words, after_option, one_option, going_on, with_value, chosen_by}
 use Rattle.hx_config.specs.Keywords.{found}
 
 -- a value was read, or not

@@ -1,12 +1,10 @@
 -- Lines, one after the other.
-use Rattle.std.proofs.Common.{◌≡◌, ℕ, suc, ◌+◌, ◌≤◌, Bool, true, false, List, [], ◌∷◌, length, Result, Ok, Err, refl, sym, ap, ◌∙◌, arith}
+use Rattle.std.proofs.Common.{◌≡◌, ℕ, suc, ◌+◌, ◌≤◌, Bool, true, false, List, [], ◌∷◌, length, Result, Ok, Err, sym, ap, ◌∙◌, arith}
 use Rattle.std.specs.Prelude.{◌==◌, ◌&&◌, cond}
 use Rattle.hx_config.specs.declared.fault.Refusal.{Refusal}
 use Rattle.hx_config.specs.declared.fault.Refusal.TheVariants as refusal
 use Rattle.hx_config.specs.declared.fault.Flaw.{Flaw}
 use Rattle.hx_config.specs.declared.fault.Rule.{Rule}
-use Rattle.hx_config.specs.declared.fault.Stop.{Stop}
-use Rattle.hx_config.specs.declared.fault.Stop.TheVariants as stop
 use Rattle.hx_config.specs.declared.reading.Reading.{Reading}
 use Rattle.hx_config.specs.Faults.{◌>>=◌, Halts, Refuses, stop_at}
 use Rattle.hx_config.specs.Lexical.{on_first, ends_line, lines_of, words_of}

@@ -1,9 +1,8 @@
 -- Each line keeps the limits and the numbers of the servers.
-use Rattle.std.proofs.Common.{◌≡◌, ℕ, ◌+◌, ◌-◌, ◌<◌, ◌≤◌, Bool, true, false, List, [], ◌∷◌, ◌++◌, length, map, Option, Some, None, Result, Ok, Err, refl, sym, ap, ◌∙◌, append_assoc, arith, inl, inr}
-use Rattle.std.specs.Prelude.{IfOk, is_err, ⊤, ◌&&◌, ◌||◌, ◌==◌, nat_le, cond, if◌then◌else◌, codes}
-use Rattle.std.specs.List.{list_all, flat_map}
+use Rattle.std.proofs.Common.{◌≡◌, ℕ, ◌+◌, ◌<◌, ◌≤◌, Bool, true, false, List, [], ◌∷◌, ◌++◌, length, map, Some, Result, Ok, Err, refl, sym, ap, ◌∙◌, append_assoc, arith}
+use Rattle.std.specs.Prelude.{IfOk, is_err, ⊤, ◌&&◌, ◌==◌, nat_le, cond, if◌then◌else◌, codes}
 use Rattle.std.proofs.lemmas.List.{append-nil, length-append, length-map}
-use Rattle.std.proofs.lemmas.Bool.{cases_Bool, and_parts, and_from, eq-eqb, leb-true, leb-false, le-leb, or_parts, and_cases}
+use Rattle.std.proofs.lemmas.Bool.{and_parts, and_from, eq-eqb, leb-true, leb-false, le-leb, or_parts}
 use Rattle.hx_base.specs.declared.rules.Mode.{Mode}
 use Rattle.std.proofs.lemmas.Result.{IfOk-at_ok}
 use Rattle.hx_config.specs.declared.fault.Rule.{Rule}
@@ -33,7 +32,7 @@ use Rattle.hx_config.specs.Keywords.{found, is_one_of, first_word}
 use Rattle.hx_config.specs.Options.{chosen_by}
 use Rattle.hx_config.specs.Limits.{are_numbered}
 use Rattle.hx_config.specs.Numbers.{number_in, is_number, value, time_of}
-use Rattle.hx_config.specs.Sections.{has_front, has_back, with_mode, front_of, back_of, ended, closed, nothing_read, passing, with_values, empty_section, usual_values, first_values, has_server_named, is_double, is_full}
+use Rattle.hx_config.specs.Sections.{has_front, has_back, with_mode, front_of, back_of, closed, nothing_read, passing, with_values, empty_section, usual_values, first_values, has_server_named, is_double, is_full}
 use Rattle.hx_config.specs.Sound.{one_if, ended_servers, servers_so_far, few_binds, IsSound}
 use Rattle.hx_config.specs.Statements as means
 use Rattle.hx_config.specs.Meaning.{located, lines_read}

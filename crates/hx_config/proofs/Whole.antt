@@ -1,21 +1,20 @@
 -- What was read within the limits makes a configuration within them.
-use Rattle.std.proofs.Common.{◌≡◌, ◌≢◌, ℕ, zero, suc, ◌+◌, ◌<◌, ◌≤◌, Bool, true, false, not, List, [], ◌∷◌, ◌++◌, length, map, Option, Some, None, Result, Ok, Err, refl, sym, ap, ◌∙◌, arith, inl, inr}
-use Rattle.std.specs.Prelude.{⊤, ◌&&◌, ◌||◌, ◌==◌, nat_le, nat_lt, cond, slice_get, bytes_eq}
-use Rattle.std.specs.List.{list_all, list_any, flat_map}
-use Rattle.std.proofs.lemmas.Bool.{cases_Bool, and_parts, and_from, and_cases, eq-eqb, lt-ltb, ltb-true, cond-true, cond-false, or_left, or_right, not_from_false, false_from_ne_true}
+use Rattle.std.proofs.Common.{◌≡◌, ℕ, zero, suc, ◌+◌, ◌<◌, true, false, List, [], ◌∷◌, ◌++◌, length, map, Option, Some, None, Result, Ok, Err, refl, sym, ap, ◌∙◌, arith, inl, inr}
+use Rattle.std.specs.Prelude.{◌==◌, nat_le, nat_lt, slice_get, bytes_eq}
+use Rattle.std.specs.List.{list_all, list_any}
+use Rattle.std.proofs.lemmas.Bool.{cases_Bool, and_parts, and_from, and_cases, eq-eqb, lt-ltb, ltb-true, cond-true, cond-false, or_left, or_right, not_from_false}
 use Rattle.std.proofs.lemmas.List.{length-map, append-nil}
 use Rattle.hx_config.specs.declared.fault.Rule.TheVariants.{NoSuchBackend, NoServer}
 use Rattle.hx_config.specs.declared.fault.Flaw.{Flaw}
 use Rattle.hx_config.specs.declared.parts.Front.{Front}
-use Rattle.hx_config.specs.declared.parts.Back.{Back}
 use Rattle.hx_config.specs.declared.parts.Server.{Server}
 use Rattle.hx_config.specs.declared.sections.Frontend.{Frontend}
 use Rattle.hx_config.specs.declared.sections.Backend.{Backend}
 use Rattle.hx_config.specs.declared.reading.Reading.{Reading}
 use Rattle.hx_config.specs.Faults.{◌>>=◌}
 use Rattle.hx_config.specs.Limits.{has_few_binds, all_servers, are_numbered, serves, are_served, IsWithin}
-use Rattle.hx_config.specs.Sound.{one_if, ended_servers, servers_so_far, few_binds, IsSound}
-use Rattle.hx_config.specs.Sections.{has_front, has_back, closed, nowhere}
+use Rattle.hx_config.specs.Sound.{ended_servers, servers_so_far, few_binds, IsSound}
+use Rattle.hx_config.specs.Sections.{closed}
 use Rattle.hx_config.specs.Meaning.{place_from, place_of, at_place, placed, all_placed, is_idle, all_served}
 
 bind_ok : {A B E : Type 0} (r : Result A E) (f : A → Result B E) (y : B) → (r >>= f) ≡ Ok y → (x : A) × (r ≡ Ok x) × (f x ≡ Ok y)

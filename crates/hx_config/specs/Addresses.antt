@@ -1,5 +1,5 @@
 -- Addresses and names (HAProxy 2.4 Configuration Manual, sections 2.1, 4.2 and 5.2).
-use Rattle.std.specs.Prelude.{ℕ, ◌≤◌, Bool, true, false, ◌&&◌, ◌||◌, not, List, [], ◌∷◌, length, Option, Some, None, Result, Ok, Err, if◌then◌else◌, ◌==◌, nat_le, nat_lt, bytes_eq, codes}
+use Rattle.std.specs.Prelude.{ℕ, Bool, true, ◌&&◌, ◌||◌, not, List, [], ◌∷◌, Result, Ok, Err, if◌then◌else◌, ◌==◌, nat_le, bytes_eq, codes}
 use Rattle.std.specs.List.{list_all}
 use Rattle.hx_config.specs.declared.fault.Rule.{Rule}
 use Rattle.hx_config.specs.declared.fault.Rule.TheVariants.{BadAddress, UnknownWord}

@@ -1,5 +1,5 @@
 -- The words that lines begin with (HAProxy 2.4 Configuration Manual, sections 3 and 4).
-use Rattle.std.specs.Prelude.{◌≡◌, ℕ, Bool, true, false, ◌||◌, List, [], ◌∷◌, Option, Some, None, if◌then◌else◌, bytes_eq, codes}
+use Rattle.std.specs.Prelude.{ℕ, Bool, false, ◌||◌, List, [], ◌∷◌, Option, Some, None, if◌then◌else◌, bytes_eq, codes}
 use Rattle.hx_config.specs.declared.keywords.FirstWord.{FirstWord}
 use Rattle.hx_config.specs.declared.keywords.FirstWord.TheVariants as first
 

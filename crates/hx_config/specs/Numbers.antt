@@ -1,10 +1,9 @@
 -- Numbers and times (HAProxy 2.4 Configuration Manual, section 2.5).
-use Rattle.std.specs.Prelude.{ℕ, ◌+◌, ◌-◌, ◌*◌, ◌/◌, Bool, ◌&&◌, ◌||◌, not, List, [], ◌∷◌, length, take, drop, Option, Some, None, Result, Ok, Err, if◌then◌else◌, ◌==◌, nat_le, nat_lt, bytes_eq, codes}
+use Rattle.std.specs.Prelude.{ℕ, ◌+◌, ◌-◌, ◌*◌, ◌/◌, Bool, ◌&&◌, ◌||◌, not, List, [], ◌∷◌, length, take, drop, Result, Ok, Err, if◌then◌else◌, ◌==◌, nat_le, bytes_eq, codes}
 use Rattle.std.specs.List.{list_all, prefix_len}
 use Rattle.hx_base.specs.declared.numbers.Millis.{Millis}
 use Rattle.hx_config.specs.declared.fault.Rule.{Rule}
 use Rattle.hx_config.specs.declared.fault.Rule.TheVariants.{BadNumber, BadTime}
-use Rattle.hx_config.specs.Faults.{◌>>=◌}
 
 abbrev pub is_digit : ℕ → Bool
 is_digit b = nat_le 48 b && nat_le b 57

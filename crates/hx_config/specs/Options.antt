@@ -1,9 +1,7 @@
 -- The options of `server` and `default-server` lines (HAProxy 2.4 Configuration Manual, section 5.2).
-use Rattle.std.specs.Prelude.{ℕ, Bool, true, false, ◌&&◌, List, [], ◌∷◌, Option, Some, None, Result, Ok, Err, if◌then◌else◌, bytes_eq, codes, ⊤}
-use Rattle.std.specs.List.{list_all}
-use Rattle.hx_base.specs.declared.rules.PoolRules.{PoolRules}
+use Rattle.std.specs.Prelude.{ℕ, true, List, [], ◌∷◌, Option, Some, None, Result, Ok, Err, if◌then◌else◌, bytes_eq, codes, ⊤}
 use Rattle.hx_config.specs.declared.fault.Rule.{Rule}
-use Rattle.hx_config.specs.declared.fault.Rule.TheVariants.{UnknownWord, MissingValue, BadNumber}
+use Rattle.hx_config.specs.declared.fault.Rule.TheVariants.{UnknownWord, BadNumber}
 use Rattle.hx_config.specs.declared.options.ServerOption.{ServerOption}
 use Rattle.hx_config.specs.declared.options.ServerOption.TheVariants as option
 use Rattle.hx_config.specs.declared.options.Chosen.{Chosen}

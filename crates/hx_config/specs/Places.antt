@@ -1,5 +1,5 @@
 -- In which sections each line stands, and what a timeout does there.
-use Rattle.std.specs.Prelude.{ℕ, Bool, true, false, ◌&&◌, ◌||◌, List, [], ◌∷◌, codes}
+use Rattle.std.specs.Prelude.{ℕ, Bool, true, ◌||◌, List, [], ◌∷◌, codes}
 use Rattle.hx_config.specs.declared.keywords.FirstWord.{FirstWord}
 use Rattle.hx_config.specs.declared.keywords.FirstWord.TheVariants as first
 use Rattle.hx_config.specs.declared.keywords.TimeoutWord.{TimeoutWord}

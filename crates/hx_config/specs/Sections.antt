@@ -1,12 +1,10 @@
 -- Sections, and what stands in them so far (HAProxy 2.4 Configuration Manual, sections 2.3, 3 and 4).
-use Rattle.std.specs.Prelude.{ℕ, ◌+◌, ◌≤◌, Bool, true, false, ◌&&◌, ◌||◌, List, [], ◌∷◌, ◌++◌, length, map, Option, Some, None, if◌then◌else◌, nat_le, bytes_eq}
+use Rattle.std.specs.Prelude.{ℕ, Bool, true, false, ◌&&◌, ◌||◌, List, [], ◌∷◌, ◌++◌, length, map, Some, None, if◌then◌else◌, nat_le, bytes_eq}
 use Rattle.std.specs.List.{list_any}
-use Rattle.hx_base.specs.declared.numbers.Millis.{Millis}
 use Rattle.hx_base.specs.declared.rules.Mode.{Mode}
 use Rattle.hx_base.specs.declared.rules.Mode.TheVariants as mode
 use Rattle.hx_base.specs.declared.rules.PoolRules.{PoolRules}
 use Rattle.hx_config.specs.declared.parts.Server.{Server}
-use Rattle.hx_config.specs.declared.parts.Back.{Back}
 use Rattle.hx_config.specs.declared.sections.Kind.{Kind}
 use Rattle.hx_config.specs.declared.sections.Kind.TheVariants as kind
 use Rattle.hx_config.specs.declared.sections.Values.{Values}

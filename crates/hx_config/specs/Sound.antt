@@ -1,8 +1,7 @@
 -- Private: what holds of everything that is read, so that each configuration keeps the limits.
-use Rattle.std.specs.Prelude.{◌≡◌, ℕ, ◌+◌, ◌≤◌, Bool, true, false, List, [], ◌++◌, length, if◌then◌else◌, nat_le}
+use Rattle.std.specs.Prelude.{◌≡◌, ℕ, ◌+◌, ◌≤◌, Bool, true, false, List, [], ◌++◌, length, nat_le}
 use Rattle.std.specs.List.{list_all, flat_map}
 use Rattle.hx_config.specs.declared.parts.Server.{Server}
-use Rattle.hx_config.specs.declared.sections.Kind.{Kind}
 use Rattle.hx_config.specs.declared.sections.Frontend.{Frontend}
 use Rattle.hx_config.specs.declared.sections.Backend.{Backend}
 use Rattle.hx_config.specs.declared.reading.Reading.{Reading}

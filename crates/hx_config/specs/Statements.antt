@@ -1,7 +1,6 @@
 -- What each line does to what was read before it, or the first rule that it breaks from left to right.
-use Rattle.std.specs.Prelude.{ℕ, ◌+◌, ◌≤◌, Bool, true, false, ◌&&◌, List, [], ◌∷◌, ◌++◌, length, map, Option, Some, None, Result, Ok, Err, ⊤, if◌then◌else◌, nat_le, bytes_eq, codes}
+use Rattle.std.specs.Prelude.{ℕ, ◌+◌, Bool, true, false, List, [], ◌∷◌, ◌++◌, length, Option, Some, None, Result, Ok, Err, ⊤, if◌then◌else◌, nat_le, bytes_eq, codes}
 use Rattle.hx_base.specs.declared.numbers.Millis.{Millis}
-use Rattle.hx_base.specs.declared.numbers.ServerNo.{ServerNo}
 use Rattle.hx_base.specs.declared.rules.Mode.{Mode}
 use Rattle.hx_base.specs.declared.rules.Mode.TheVariants as mode
 use Rattle.hx_base.specs.declared.rules.PoolRules.{PoolRules}

@@ -1,4 +1,4 @@
-use Rattle.std.proofs.Common.{◌≡◌, ℕ, List, Ok, ap, ◌∙◌, sym, take, drop, ◌+◌}
+use Rattle.std.proofs.Common.{ℕ, List, Ok, ap, ◌∙◌, sym, take, ◌+◌}
 use Rattle.std.proofs.lemmas.List.{take_rest}
 use Rattle.hx_config.proofs.Cuts.{found_mark, passed_byte, no_mark}
 use Rattle.hx_config.proofs.addresses.cut.Goals as goal

@@ -1,4 +1,4 @@
-use Rattle.std.proofs.Common.{◌≡◌, ℕ, List, sym, ap, ◌∙◌}
+use Rattle.std.proofs.Common.{ℕ, List, sym, ap, ◌∙◌}
 use Rattle.std.specs.Prelude.{bytes_eq}
 use Rattle.hx_config.proofs.Finishing.{found_here, found_later, found_nowhere}
 use Rattle.hx_config.proofs.finish.place_named.Goals as goal

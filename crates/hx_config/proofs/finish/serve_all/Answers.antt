@@ -1,4 +1,4 @@
-use Rattle.std.proofs.Common.{◌≡◌, sym, ◌∙◌}
+use Rattle.std.proofs.Common.{sym, ◌∙◌}
 use Rattle.hx_config.proofs.Finishing.{idle_here, busy_here, none_idle}
 use Rattle.hx_config.proofs.finish.serve_all.Goals as goal
 

@@ -1,8 +1,6 @@
-use Rattle.std.proofs.Common.{◌≡◌, ◌≢◌, ◌<◌, ◌≤◌, ℕ, List, ◌∷◌, take, drop, sym, ap, subst, ◌∙◌, arith, length}
-use Rattle.std.specs.List.{prefix_len}
+use Rattle.std.proofs.Common.{◌<◌, sym, ◌∙◌, arith, length}
 use Rattle.std.proofs.lemmas.Bool.{eqb-true, eqb-false}
 use Rattle.std.proofs.lemmas.List.{nil_from_length}
-use Rattle.hx_config.specs.Lexical.{is_kept, lines_of}
 use Rattle.hx_config.proofs.Endings.{without_feed, with_feed, no_lines}
 use Rattle.hx_config.proofs.lines.split_line.Goals as goal
 

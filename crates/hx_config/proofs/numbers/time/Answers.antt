@@ -1,4 +1,4 @@
-use Rattle.std.proofs.Common.{◌≡◌, ap, ◌∙◌, take, true, ℕ}
+use Rattle.std.proofs.Common.{ap, ◌∙◌, take, ℕ}
 use Rattle.std.specs.List.{list_all}
 use Rattle.hx_config.specs.Numbers.{is_digit}
 use Rattle.hx_config.proofs.Values.{digits_in_front}

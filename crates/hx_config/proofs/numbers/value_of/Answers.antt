@@ -1,4 +1,4 @@
-use Rattle.std.proofs.Common.{◌≡◌, arith, rules}
+use Rattle.std.proofs.Common.{arith, rules}
 use Rattle.hx_config.proofs.Values.{one_digit, no_digit}
 use Rattle.hx_config.proofs.numbers.value_of.Goals as goal
 

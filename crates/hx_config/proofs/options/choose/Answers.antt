@@ -1,4 +1,4 @@
-use Rattle.std.proofs.Common.{◌≡◌, sym, ◌∙◌, arith, rules}
+use Rattle.std.proofs.Common.{arith}
 use Rattle.std.proofs.lemmas.Result.{err_from_is_err_and}
 use Rattle.hx_config.proofs.Choices.{goes_on, stops, is_over, shorter}
 use Rattle.hx_config.proofs.options.choose.Goals as goal

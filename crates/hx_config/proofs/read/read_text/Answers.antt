@@ -1,4 +1,4 @@
-use Rattle.std.proofs.Common.{◌≡◌, sym, ap, subst, ◌∙◌}
+use Rattle.std.proofs.Common.{sym, subst, ◌∙◌}
 use Rattle.hx_config.specs.Lexical.{lines_of}
 use Rattle.hx_config.specs.Sections.{closed}
 use Rattle.hx_config.specs.Sound.{IsSound}

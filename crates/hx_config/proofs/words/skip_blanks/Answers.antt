@@ -1,5 +1,4 @@
-use Rattle.std.proofs.Common.{◌≡◌, sym, ◌∙◌}
-use Rattle.std.proofs.lemmas.Bool.{not-false}
+use Rattle.std.proofs.Common.{sym, ◌∙◌}
 use Rattle.hx_config.proofs.Lexing.{skip_one}
 use Rattle.hx_config.proofs.words.skip_blanks.Goals as goal
 

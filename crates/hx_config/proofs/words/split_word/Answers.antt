@@ -1,6 +1,5 @@
-use Rattle.std.proofs.Common.{◌≡◌, ◌<◌, ◌≤◌, ℕ, List, ◌∷◌, take, drop, sym, ap, subst, ◌∙◌, arith, length}
-use Rattle.std.specs.List.{prefix_len}
-use Rattle.hx_config.specs.Lexical.{is_inside, words_of}
+use Rattle.std.proofs.Common.{sym, ◌∙◌, arith}
+use Rattle.hx_config.specs.Lexical.{is_inside}
 use Rattle.hx_config.proofs.Lexing.{no_word, word_in_front, prefix_in}
 use Rattle.hx_config.proofs.words.split_word.Goals as goal
 
