@@ -13,7 +13,9 @@ use hx_pool::{Entry, NoPark};
 
 /// Why the rules keep no connection, whatever rests.
 pub(crate) fn refused_by_rules(rules: &PoolRules) -> Option<NoPark>
-    ensures { MatchOption result ((rules.now.mode ≢ mode.Never) × KeepsSome rules.now) (RefusedByRules rules.now) }
+    ensures { MatchOption result
+        ((rules.now.mode ≢ mode.Never) × KeepsSome rules.now)
+        (RefusedByRules rules.now) }
 {
     if let Mode::Never = rules.mode {
         return Some(NoPark::Never);
@@ -24,7 +26,8 @@ pub(crate) fn refused_by_rules(rules: &PoolRules) -> Option<NoPark>
     None
 }
 
-/// The steps of a park before the value is published: looks up to the first vacant place, the drain state, the count.
+/// The steps of a park before the value is published: looks up to the first vacant place, the drain
+/// state, the count.
 pub(crate) fn admit<V: Faced>(
     ledger: &mut Ledger,
     resting: &[Rest<V>],
@@ -32,7 +35,9 @@ pub(crate) fn admit<V: Faced>(
     draining: bool,
     max: Option<u32>,
 ) -> Result<u8, NoPark>
-    ensures { MatchResult result (Admits ledger.old ledger.new t (rests_of V.shows resting.now) draining max) (Refuses ledger.old ledger.new t (rests_of V.shows resting.now) draining max) }
+    ensures { MatchResult result
+        (Admits ledger.old ledger.new t (rests_of V.shows resting.now) draining max)
+        (Refuses ledger.old ledger.new t (rests_of V.shows resting.now) draining max) }
 {
     let Some(place) = look_for_vacant(ledger, resting, t) else {
         return Err(NoPark::RowFull);

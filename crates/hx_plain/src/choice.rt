@@ -19,7 +19,9 @@ pub(crate) fn fits(mode: Mode, first: bool, safe: bool, uses: u16) -> bool
 
 /// The request may take a connection of some use count.
 pub(crate) fn allows_some(mode: Mode, first: bool) -> bool
-    ensures { MatchBool result ((u : ℕ) × (allows mode first u ≡ true)) ((u : ℕ) → allows mode first u ≡ false) }
+    ensures { MatchBool result
+        ((u : ℕ) × (allows mode first u ≡ true))
+        ((u : ℕ) → allows mode first u ≡ false) }
 {
     match mode {
         Mode::Never => false,
@@ -31,14 +33,18 @@ pub(crate) fn allows_some(mode: Mode, first: bool) -> bool
 
 /// The rules keep a connection at all.
 pub(crate) fn keeps_any(rules: &PoolRules) -> bool
-    ensures { MatchBool result (KeepsSome rules.now) ((rules.now.max ≡ Some 0) ⊎ (rules.now.delay.0 ≡ 0)) }
+    ensures { MatchBool result
+        (KeepsSome rules.now)
+        ((rules.now.max ≡ Some 0) ⊎ (rules.now.delay.0 ≡ 0)) }
 {
     rules.max != Some(0) && rules.delay.0 != 0
 }
 
 /// One more connection may rest beside this count.
 pub(crate) fn has_room(max: Option<u32>, count: u64) -> bool
-    ensures { MatchBool result (IfSome max (λ m. count < m)) ((m : ℕ) × (max ≡ Some m) × (m ≤ count)) }
+    ensures { MatchBool result
+        (IfSome max (λ m. count < m))
+        ((m : ℕ) × (max ≡ Some m) × (m ≤ count)) }
 {
     match max {
         Some(m) => count < m as u64,

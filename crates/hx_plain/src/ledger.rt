@@ -1,4 +1,5 @@
-//! The entries of one seat. They take no memory: they are the view of a seat at a table of one word, which nobody else reads.
+//! The entries of one seat. They take no memory: they are the view of a token at a table of one
+//! word, which nobody else reads.
 ghost use Rattle.std.specs.Prelude.{◌≡◌, [], IfOk};
 
 use atomic_table::{Play, Table, TableRule};
@@ -57,7 +58,8 @@ impl Model for Ledger {
 
     ghost view = { λ l. record { board = l.table.shared.table_id; notes = l.token.me.0 } };
 
-    ghost invariant = { λ l. (l.token.table_id ≡ l.table.shared.table_id) × (l.table.shared.table_id.words ≡ 1) };
+    ghost invariant = { λ l. (l.token.table_id ≡ l.table.shared.table_id)
+        × (l.table.shared.table_id.words ≡ 1) };
 }
 
 impl Ledger {
@@ -89,7 +91,8 @@ impl Ledger {
 
     /// Beside a Park stands what the value's link tells.
     pub(crate) fn write_park<V: Faced>(&mut self, entry: Entry, v: &V)
-        ensures { self.new ≡ add_note self.old (record { entry = entry; what = Some (V.shows v.now).what }) }
+        ensures { self.new ≡ add_note self.old
+            (record { entry = entry; what = Some (V.shows v.now).what }) }
     {
         self.add::<Brand, V>(entry, v);
     }

@@ -1,4 +1,5 @@
-//! The seat of one thread at a board of one row: it has the places to itself, and a table of its own for its history.
+//! The seat of one thread at a board of one row: it has the places to itself, and a table of its own
+//! for its history.
 #![tactic(auto)]
 
 mod admit;

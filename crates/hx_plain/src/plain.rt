@@ -51,9 +51,16 @@ impl<V: Faced> Model for PlainSeat<V> {
 
     ghost Value = { PlainView };
 
-    ghost view = { λ s. record { history = alone (about_alone s.server s.rules s.start s.ledger.board) s.passed s.ledger.notes; last = last_list s.last } };
+    ghost view = { λ s. record {
+      history = alone (about_alone s.server s.rules s.start s.ledger.board)
+          s.passed s.ledger.notes;
+      last = last_list s.last;
+    } };
 
-    ghost invariant = { λ s. KeepsAll (about_alone s.server s.rules s.start s.ledger.board) s.ledger.notes (known s.next s.draining s.round (rests_of V.shows s.resting.items)) (rests_of V.shows s.resting.items) s.passed s.totals (vec_capacity s.resting) };
+    ghost invariant = { λ s. let rests = rests_of V.shows s.resting.items in
+        KeepsAll (about_alone s.server s.rules s.start s.ledger.board) s.ledger.notes
+        (known s.next s.draining s.round rests) rests s.passed s.totals
+        (vec_capacity s.resting) };
 }
 
 impl<V: Faced> PlainSeat<V> {
@@ -66,7 +73,8 @@ impl<V: Faced> PlainSeat<V> {
         rules: PoolRules,
         start: Millis,
     ) -> Result<PlainSeat<V>, NoMemory>
-        ensures board { IfOk result (λ s. s.history.about ≡ about_alone server rules start s.history.about.board) }
+        ensures board { IfOk result (λ s. s.history.about
+            ≡ about_alone server rules start s.history.about.board) }
         ensures unused { IfOk result (λ s. IsUnused s.history) }
     {
         let Ok(resting) = Vec::with_capacity(alloc, 64) else {

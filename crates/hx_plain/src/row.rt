@@ -24,7 +24,9 @@ pub(crate) fn found_at<V: Faced>(resting: &[Rest<V>], place: u8) -> Found
 }
 
 fn last_in<V: Faced>(resting: &[Rest<V>], mode: Mode, first: bool, safe: bool) -> Option<usize>
-    ensures { MatchOption result (NoneFits mode first safe (rests_of V.shows resting.now)) (LastFits mode first safe (rests_of V.shows resting.now)) }
+    ensures { MatchOption result
+        (NoneFits mode first safe (rests_of V.shows resting.now))
+        (LastFits mode first safe (rests_of V.shows resting.now)) }
 {
     let mut i = resting.len();
     while i > 0 {
@@ -36,9 +38,13 @@ fn last_in<V: Faced>(resting: &[Rest<V>], mode: Mode, first: bool, safe: bool) -
     None
 }
 
-/// A first request looks at the safe list first, a later one at the idle list. The one parked last comes first.
+/// A first request looks at the safe list first, a later one at the idle list. The one parked last
+/// comes first.
 pub(crate) fn best<V: Faced>(resting: &[Rest<V>], mode: Mode, first: bool) -> Option<usize>
-    ensures { MatchOption result (NoneFits mode first true (rests_of V.shows resting.now) × NoneFits mode first false (rests_of V.shows resting.now)) (BestFits mode first (rests_of V.shows resting.now)) }
+    ensures { let rests = rests_of V.shows resting.now in
+        MatchOption result
+        (NoneFits mode first true rests × NoneFits mode first false rests)
+        (BestFits mode first rests) }
 {
     if let Some(i) = last_in(resting, mode, first, first) {
         return Some(i);
@@ -52,7 +58,11 @@ pub(crate) fn look_for_vacant<V: Faced>(
     resting: &[Rest<V>],
     t: ThreadNo,
 ) -> Option<u8>
-    ensures { MatchOption result (Scanned ledger.old ledger.new t (rests_of V.shows resting.now) 64 64) (λ p. Scanned ledger.old ledger.new t (rests_of V.shows resting.now) (p + 1) p × (p < 64) × (spot_in (rests_of V.shows resting.now) p ≡ Vacant)) }
+    ensures { let rests = rests_of V.shows resting.now in
+        MatchOption result
+        (Scanned ledger.old ledger.new t rests 64 64)
+        (λ p. Scanned ledger.old ledger.new t rests (p + 1) p
+        × (p < 64) × (spot_in rests p ≡ Vacant)) }
 {
     for place in 0..ROW {
         let found = found_at(resting, place);
@@ -69,7 +79,9 @@ pub(crate) fn look_for_vacant<V: Faced>(
 }
 
 fn index_at<V: Faced>(resting: &[Rest<V>], place: u8) -> Option<usize>
-    ensures { MatchOption result (spot_in (rests_of V.shows resting.now) place ≡ Vacant) (λ i. CutAt (rests_of V.shows resting.now) i place) }
+    ensures { MatchOption result
+        (spot_in (rests_of V.shows resting.now) place ≡ Vacant)
+        (λ i. CutAt (rests_of V.shows resting.now) i place) }
 {
     for i in 0..resting.len() {
         if resting[i].place == place {
@@ -79,7 +91,8 @@ fn index_at<V: Faced>(resting: &[Rest<V>], place: u8) -> Option<usize>
     None
 }
 
-/// Looks at the places from one on, until a value rests: how many were vacant, and the value's index.
+/// Looks at the places from one on, until a value rests: how many were vacant, and the value's
+/// index.
 pub(crate) fn look_for_resting<V: Faced>(
     ledger: &mut Ledger,
     resting: &[Rest<V>],
@@ -87,7 +100,11 @@ pub(crate) fn look_for_resting<V: Faced>(
     from: u8,
 ) -> Option<(u8, usize)>
     requires { from ≤ 64 }
-    ensures { MatchOption result (Ran ledger.old ledger.new t (rests_of V.shows resting.now) from (64 - from)) (λ r. Ran ledger.old ledger.new t (rests_of V.shows resting.now) from r.0 × (from + r.0 < 64) × CutAt (rests_of V.shows resting.now) r.1 (from + r.0)) }
+    ensures { let rests = rests_of V.shows resting.now in
+        MatchOption result
+        (Ran ledger.old ledger.new t rests from (64 - from))
+        (λ r. Ran ledger.old ledger.new t rests from r.0
+        × (from + r.0 < 64) × CutAt rests r.1 (from + r.0)) }
 {
     for count in 0..ROW - from {
         let place = from + count;

@@ -24,7 +24,8 @@ pub(crate) fn caretaker_of(t: ThreadNo) -> Taker
     }
 }
 
-/// Takes the first value that rests from this place on. The number is how many vacant places were passed before it.
+/// Takes the first value that rests from this place on. The number is how many vacant places were
+/// passed before it.
 pub(crate) fn sweep<V: Faced>(
     ledger: &mut Ledger,
     resting: &mut Vec<Rest<V>>,
@@ -32,7 +33,13 @@ pub(crate) fn sweep<V: Faced>(
     from: u8,
 ) -> Option<(u8, Rest<V>)>
     requires { from ≤ 64 }
-    ensures swept { MatchOption result (Ran ledger.old ledger.new t (rests_of V.shows resting.old.items) from (64 - from) × (resting.new.items ≡ resting.old.items)) (λ r. (r.1.place ≡ from + r.0) × Swept ledger.old ledger.new (rests_of V.shows resting.old.items) (rests_of V.shows resting.new.items) t from r.0 (V.shows r.1.v)) }
+    ensures swept { let rests = rests_of V.shows resting.old.items in
+        let left = rests_of V.shows resting.new.items in
+        MatchOption result
+        (Ran ledger.old ledger.new t rests from (64 - from)
+        × (resting.new.items ≡ resting.old.items))
+        (λ r. (r.1.place ≡ from + r.0)
+        × Swept ledger.old ledger.new rests left t from r.0 (V.shows r.1.v)) }
     ensures room { vec_capacity resting.new ≡ vec_capacity resting.old }
 {
     let Some((passed, i)) = look_for_resting(ledger, resting.as_slice(), t, from) else {
@@ -45,9 +52,11 @@ pub(crate) fn sweep<V: Faced>(
     Some((passed, rest))
 }
 
-/// How many of these resting connections are to be closed after so many intervals: each leaves half of the rest.
+/// How many of these resting connections are to be closed after so many intervals: each leaves half
+/// of the rest.
 pub(crate) fn quota_after(t: ThreadNo, count: u64, intervals: u64) -> Quota
-    ensures { result ≡ record { left = quota_of count intervals; row = t.0; place = 0; seen = 0 } }
+    ensures { result
+        ≡ record { left = quota_of count intervals; row = t.0; place = 0; seen = 0 } }
 {
     Quota {
         left: count - (count >> intervals.min(63)),

@@ -22,7 +22,8 @@ pub(crate) struct Taker {
 }
 
 pub(crate) fn take_entry(taker: Taker, place: u8, face: Face) -> Entry
-    ensures { result ≡ Entry.Take taker.t taker.n taker.first (place_of taker.t.0 place) face.id face.uses }
+    ensures { result
+        ≡ Entry.Take taker.t taker.n taker.first (place_of taker.t.0 place) face.id face.uses }
 {
     Entry::Take {
         t: taker.t,
@@ -39,7 +40,8 @@ pub(crate) fn take_entry(taker: Taker, place: u8, face: Face) -> Entry
 
 /// The steps of a take: the place is taken, freed, and the count goes down.
 pub(crate) fn leave(ledger: &mut Ledger, taker: Taker, place: u8, face: Face, count: u64)
-    ensures { ledger.new ≡ add_notes ledger.old (taking taker.t taker.n taker.first (place_of taker.t.0 place) face count) }
+    ensures { ledger.new ≡ add_notes ledger.old
+        (taking taker.t taker.n taker.first (place_of taker.t.0 place) face count) }
 {
     ledger.write(take_entry(taker, place, face));
     ledger.write(Entry::Free {
@@ -62,7 +64,13 @@ pub(crate) fn take_best<V: Faced>(
     taker: Taker,
     mode: Mode,
 ) -> Option<Rest<V>>
-    ensures took { MatchOption result (NoneFits mode taker.first true (rests_of V.shows resting.old.items) × NoneFits mode taker.first false (rests_of V.shows resting.old.items) × (resting.new.items ≡ resting.old.items) × (ledger.new ≡ ledger.old)) (λ r. TookBest ledger.old ledger.new (rests_of V.shows resting.old.items) (rests_of V.shows resting.new.items) taker.t taker.n taker.first mode r.place (V.shows r.v)) }
+    ensures took { let rests = rests_of V.shows resting.old.items in
+        let left = rests_of V.shows resting.new.items in
+        MatchOption result
+        (NoneFits mode taker.first true rests × NoneFits mode taker.first false rests
+        × (resting.new.items ≡ resting.old.items) × (ledger.new ≡ ledger.old))
+        (λ r. TookBest ledger.old ledger.new rests left
+        taker.t taker.n taker.first mode r.place (V.shows r.v)) }
     ensures room { vec_capacity resting.new ≡ vec_capacity resting.old }
 {
     let Some(i) = best(resting.as_slice(), mode, taker.first) else {
