@@ -269,3 +269,129 @@ fn what_lines_mean(rt: HostRuntime) -> Result<(), Fail> {
     }
     Ok(())
 }
+
+// Lines, and what each is in `global`, `defaults`, `frontend`, `backend` and `listen`, in this order: read (r), passed over (p),
+// unknown (2) or in the wrong place (3).
+const CELLS: [(&str, &str); 48] = [
+    ("nbthread 4", "r3333"),
+    ("mode http", "3rrrr"),
+    ("bind :80", "33r3r"),
+    ("bind *:80", "33r3r"),
+    ("bind localhost:65535", "33r3r"),
+    ("bind 255.0.0.1:1", "33r3r"),
+    ("default_backend x", "3rr3r"),
+    ("balance roundrobin", "3r3rr"),
+    ("http-reuse never", "3r3rr"),
+    ("http-reuse safe", "3r3rr"),
+    ("http-reuse aggressive", "3r3rr"),
+    ("http-reuse always", "3r3rr"),
+    ("timeout connect 1s", "3r2rr"),
+    ("timeout server 1s", "3r2rr"),
+    ("timeout client 1s", "3rr2r"),
+    ("timeout http-keep-alive 1s", "3rrpr"),
+    ("default-server pool-max-conn -1", "3r3rr"),
+    ("default-server pool-low-conn 1000000", "3r3rr"),
+    ("default-server pool-purge-delay 1s", "3r3rr"),
+    ("default-server check", "3p3pp"),
+    ("default-server inter 1s", "3p3pp"),
+    ("default-server rise 1 fall 2", "3p3pp"),
+    ("default-server maxconn 1", "3p3pp"),
+    ("server s 1.1.1.1:1", "333rr"),
+    ("server s localhost:1 pool-max-conn 1000000", "333rr"),
+    (
+        "server s 1.1.1.1:1 check inter 1s rise 1 fall 2 maxconn 3",
+        "333pp",
+    ),
+    ("log \u{7f}", "ppppp"),
+    ("maxconn 4", "ppppp"),
+    ("chroot x", "p3333"),
+    ("stats x", "p3333"),
+    ("user x", "p3333"),
+    ("group x", "p3333"),
+    ("daemon", "p3333"),
+    ("pidfile x", "p3333"),
+    ("ca-base x", "p3333"),
+    ("crt-base x", "p3333"),
+    ("ssl-default-bind-ciphers x", "p3333"),
+    ("ssl-default-bind-ciphersuites x", "p3333"),
+    ("ssl-default-bind-options x", "p3333"),
+    ("errorfile 503 x", "3pppp"),
+    ("retries 3", "3pppp"),
+    ("option httplog", "3pppp"),
+    ("option dontlognull", "3pppp"),
+    ("option http-keep-alive", "3pppp"),
+    ("option redispatch 1", "3pppp"),
+    ("timeout http-request 1s", "3pppp"),
+    ("timeout queue 1s", "3pppp"),
+    ("timeout check 1s", "3pppp"),
+];
+
+// Each section's first line, and what makes the text whole after one more line.
+const SECTIONS: [(&str, &str); 5] = [
+    ("global\n", "\n"),
+    ("defaults\n", "\n"),
+    (
+        "frontend a\n",
+        "\n default_backend b\nbackend b\n server t 1.1.1.1:1\n",
+    ),
+    ("backend a\n", "\n"),
+    ("listen a\n", "\n default_backend a\n server t 1.1.1.1:1\n"),
+];
+
+fn cell(alloc: Global, text: &str) -> char {
+    match read_config(alloc, text.as_bytes()) {
+        Ok(config) => match config.passed_over.as_slice() {
+            [] => 'r',
+            [2] => 'p',
+            _ => 'o',
+        },
+        Err(ConfigFault::At { line: 2, rule: 2 }) => '2',
+        Err(ConfigFault::At { line: 2, rule: 3 }) => '3',
+        Err(_) => 'f',
+    }
+}
+
+#[test]
+fn each_line_in_each_section(rt: HostRuntime) -> Result<(), Fail> {
+    for (line, cells) in &CELLS {
+        for ((head, tail), wanted) in SECTIONS.iter().zip(cells.chars()) {
+            let text = format!(in rt.alloc(); "{head}{line}{tail}")?;
+            assert_eq!(rt; cell(rt.alloc(), text.as_str()), wanted, "{line} in {head}");
+        }
+    }
+    Ok(())
+}
+
+#[test]
+fn sections_and_servers_to_their_limits(rt: HostRuntime) -> Result<(), Fail> {
+    // The head, the line of each number, how many are few enough, and the line of one more.
+    for (head, before, after, most, at) in [
+        (
+            "backend b\n server s 1.1.1.1:1\n",
+            "frontend f",
+            "\n default_backend b\n",
+            16,
+            35,
+        ),
+        ("", "backend b", "\n", 16, 17),
+        ("backend b\n", " server s", " 1.1.1.1:1\n", 32, 34),
+    ] {
+        let mut text = String::new(rt.alloc());
+        text.push_str(head)?;
+        for i in 0..most {
+            let line = format!(in rt.alloc(); "{before}{i}{after}")?;
+            text.push_str(line.as_str())?;
+        }
+        assert!(rt;
+            read(rt.alloc(), text.as_str()).is_ok(),
+            "{most} are few enough"
+        );
+        let line = format!(in rt.alloc(); "{before}{most}{after}")?;
+        text.push_str(line.as_str())?;
+        match read_config(rt.alloc(), text.as_bytes()) {
+            Err(fault) => assert_eq!(rt; fault, ConfigFault::At { line: at, rule: 10 }),
+            Ok(_) => assert!(rt; false, "one too many is refused"),
+        }
+    }
+    Ok(())
+}
