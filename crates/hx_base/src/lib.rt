@@ -1,6 +1,7 @@
 //! The numbers and small types that all crates share.
 #![tactic(auto)]
 
+mod address;
 mod faced;
 mod items;
 mod numbers;
@@ -9,6 +10,7 @@ mod rules;
 mod totals;
 mod what;
 
+pub use address::{Address, Host};
 pub use faced::Faced;
 pub use items::{Bytes, Items, Name};
 pub use numbers::{

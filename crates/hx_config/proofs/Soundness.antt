@@ -26,7 +26,7 @@ use Rattle.hx_config.specs.declared.fault.Refusal.{Refusal}
 use Rattle.hx_config.specs.Faults.{◌>>=◌, Gives}
 use Rattle.hx_config.specs.Lexical.{no_words, words_of, word_at, at_end}
 use Rattle.hx_config.specs.declared.options.Chosen.{Chosen}
-use Rattle.hx_config.specs.declared.parts.Address.{Address}
+use Rattle.hx_base.specs.declared.address.Address.{Address}
 use Rattle.hx_config.specs.Addresses.{server_address, bind_address, name_of}
 use Rattle.hx_config.specs.Keywords.{found, is_one_of, first_word}
 use Rattle.hx_config.specs.Options.{chosen_by}

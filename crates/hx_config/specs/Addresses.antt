@@ -3,9 +3,9 @@ use Rattle.std.specs.Prelude.{ℕ, Bool, true, ◌&&◌, ◌||◌, not, List, []
 use Rattle.std.specs.List.{list_all}
 use Rattle.hx_config.specs.declared.fault.Rule.{Rule}
 use Rattle.hx_config.specs.declared.fault.Rule.TheVariants.{BadAddress, UnknownWord}
-use Rattle.hx_config.specs.declared.parts.Host.{Host}
-use Rattle.hx_config.specs.declared.parts.Host.TheVariants as host
-use Rattle.hx_config.specs.declared.parts.Address.{Address}
+use Rattle.hx_base.specs.declared.address.Host.{Host}
+use Rattle.hx_base.specs.declared.address.Host.TheVariants as host
+use Rattle.hx_base.specs.declared.address.Address.{Address}
 use Rattle.hx_config.specs.Faults.{◌>>=◌}
 use Rattle.hx_config.specs.Numbers.{is_digit, bounded}
 

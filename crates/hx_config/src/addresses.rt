@@ -8,7 +8,7 @@ ghost use Rattle.hx_config.specs.Addresses as spelled;
 use crate::fault::{Refusal, Rule};
 use crate::keywords::same;
 use crate::numbers::number;
-use crate::parts::{Address, Host};
+use hx_base::{Address, Host};
 
 // What stands before the first such byte, and behind it.
 fn cut(word: &[u8], mark: u8) -> Result<(&[u8], &[u8]), Refusal>

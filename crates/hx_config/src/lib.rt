@@ -21,7 +21,8 @@ mod words;
 
 pub use config::Config;
 pub use fault::ConfigFault;
-pub use parts::{Address, Back, Front, Host, Server};
+pub use hx_base::{Address, Host};
+pub use parts::{Back, Front, Server};
 pub use read::read_config;
 
 #[cfg(test)]

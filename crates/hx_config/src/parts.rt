@@ -1,24 +1,6 @@
 //! The parts of a configuration.
 
-use hx_base::{Items, Millis, Name, PoolRules, ServerNo};
-
-/// Where to connect or to listen.
-#[derive(Clone, Copy, PartialEq, Eq, Debug)]
-pub enum Host {
-    /// Each address of this machine.
-    Any,
-    /// An IPv4 address.
-    V4(u8, u8, u8, u8),
-    /// `localhost`.
-    Local,
-}
-
-#[derive(Clone, Copy, PartialEq, Eq, Debug)]
-pub struct Address {
-    pub host: Host,
-    /// At least 1.
-    pub port: u16,
-}
+use hx_base::{Address, Items, Millis, Name, PoolRules, ServerNo};
 
 /// A `server` line.
 #[derive(Drop)]

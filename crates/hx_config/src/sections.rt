@@ -1,8 +1,8 @@
 //! Sections, as far as they were read.
 
 use crate::growing::Growing;
-use crate::parts::{Address, Back, Server};
-use hx_base::{Millis, Name, PoolRules};
+use crate::parts::{Back, Server};
+use hx_base::{Address, Millis, Name, PoolRules};
 
 /// The section in which a line stands.
 #[derive(Clone, Copy, PartialEq, Eq, Debug)]
