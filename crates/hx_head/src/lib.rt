@@ -19,4 +19,5 @@ pub use answer::read_answer;
 pub use forward::{NoRoom, forward_answer, forward_request};
 pub use head::{AnswerHead, FieldSpan, HeadRead, RequestHead};
 pub use hx_message::MethodKind;
+pub use refusal::Refusal;
 pub use request::read_request;

@@ -2,9 +2,9 @@
 ghost use Rattle.std.specs.Prelude.{◌≡◌};
 ghost use Rattle.hx_head.specs.Causes.{code_of};
 
-/// Why a head is refused.
+/// Why a head is refused. `HeadRead::Refused` has its number.
 #[derive(Clone, Copy, Debug, PartialEq, Eq)]
-pub(crate) enum Refusal {
+pub enum Refusal {
     /// No bytes can follow that make a head.
     NotAHead,
     /// The first 16,384 bytes hold no whole head.
@@ -19,7 +19,7 @@ pub(crate) enum Refusal {
 
 impl Refusal {
     /// The number that a caller sees.
-    pub(crate) fn code(self) -> u8
+    pub fn code(self) -> u8
         ensures { result ≡ code_of self }
     {
         match self {

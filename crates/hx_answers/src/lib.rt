@@ -1,0 +1,8 @@
+//! The answers that the proxy gives itself (RFC 9110, section 15).
+#![tactic(auto)]
+
+mod own;
+#[cfg(test)]
+mod tests;
+
+pub use own::own_answer;

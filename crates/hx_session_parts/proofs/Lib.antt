@@ -1,0 +1,4 @@
+pub mod BodyLemmas
+pub mod GrowthLemmas
+pub mod LookLemmas
+pub mod OnWayLemmas

@@ -1,0 +1,4 @@
+pub mod Asks
+pub mod Answers
+pub mod Bodies
+pub mod OnWay
