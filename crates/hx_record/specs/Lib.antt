@@ -1,3 +1,4 @@
 pub mod Carriage
+pub mod Samples
 pub mod Tiles
 pub mod Truth

@@ -1,6 +1,5 @@
 -- When a record is true of the bytes of its client's link and of its connection's link.
 use Rattle.std.specs.Prelude.{◌≡◌, ◌⊎◌, ◌↔◌, ℕ, ◌-◌, ◌≤◌, Bool, true, List, length, take, drop}
-use Rattle.hx_base.specs.declared.numbers.Span.{Span}
 use Rattle.hx_base.specs.Spans.{bytes_in, LiesIn, span_size}
 use Rattle.httparse.specs.Grammar.{RequestHead}
 use Rattle.hx_message.specs.declared.MethodKind.{MethodKind}

@@ -2,6 +2,7 @@
 #![tactic(auto)]
 
 mod bytes;
+mod samples;
 mod served;
 
 pub use bytes::{ClientBytes, ConnBytes};

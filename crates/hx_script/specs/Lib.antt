@@ -1,6 +1,7 @@
 pub mod ByteText
 pub mod LinkLines
 pub mod MarkLines
+pub mod Numbers
 pub mod Printed
 pub mod PrintedForm
 pub mod QuotedReading

@@ -1,6 +1,7 @@
 //! Transcripts of replays, and the texts of scripts and transcripts.
 #![tactic(auto)]
 
+mod laws;
 mod link_lines;
 mod mark_lines;
 mod pieces;
@@ -14,6 +15,7 @@ mod transcript;
 pub use hx_record::{
     Carried, ClientBytes, ConnBytes, CutCause, Kind, Left, LeftCause, Served, Told,
 };
+pub use laws::one_transcript;
 pub use print::print_transcript;
 pub use quoted::{one_byte_text, read_quoted};
 pub use transcript::{ServerPart, Transcript};

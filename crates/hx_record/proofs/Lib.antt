@@ -1,0 +1,2 @@
+pub mod TrueSamples
+pub mod WrongSamples

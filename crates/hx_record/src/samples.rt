@@ -1,0 +1,35 @@
+//! The definitions, tried on records of one exchange and of two. Each function is there for its clauses.
+ghost use Rattle.hx_record.specs.Samples.{client, closed_untold, closing_answer, ask, answer, first, gap_in_asks, gap_in_sent, gave_too_short, ask_too_short, one_asked, one_carried, one_record, other_answer, second, second_as, told_after_end, two_asked, two_carried, two_records, Recounts};
+ghost use Rattle.hx_record.specs.Tiles.{TilesClient, TilesConn};
+
+/// One exchange: its record is true, and the ranges leave no gap.
+fn one_exchange()
+    ensures is_true { Recounts first one_asked one_carried }
+    ensures client { TilesClient one_record one_asked }
+    ensures conn { TilesConn one_record one_carried }
+{}
+
+/// Two exchanges on one connection.
+fn two_exchanges()
+    ensures first_is_true { Recounts first two_asked two_carried }
+    ensures second_is_true { Recounts second two_asked two_carried }
+    ensures client { TilesClient two_records two_asked }
+    ensures conn { TilesConn two_records two_carried }
+{}
+
+/// A range that is one byte short, another number, or other bytes make a record false.
+fn wrong_records()
+    ensures gave_too_short { ¬ Recounts gave_too_short one_asked one_carried }
+    ensures ask_too_short { ¬ Recounts ask_too_short one_asked one_carried }
+    ensures number_too_low { ¬ Recounts (second_as 1) two_asked two_carried }
+    ensures number_too_high { ¬ Recounts (second_as 3) two_asked two_carried }
+    ensures other_answer_given { ¬ Recounts first (client ask other_answer) one_carried }
+    ensures closed_untold { ¬ Recounts closed_untold (client ask closing_answer) one_carried }
+{}
+
+/// A gap between two ranges, or a record after the session's end: the ranges don't tile.
+fn wrong_ranges()
+    ensures gap_in_asks { ¬ TilesClient gap_in_asks two_asked }
+    ensures gap_in_sent { ¬ TilesConn gap_in_sent two_carried }
+    ensures told_after_end { ¬ TilesClient told_after_end two_asked }
+{}
