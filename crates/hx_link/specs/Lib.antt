@@ -11,6 +11,7 @@ pub mod Places
 pub mod MemoryLinkView
 pub mod Pipes
 pub mod PipeLends
+pub mod Moves
 pub mod Nets
 pub mod MemoryNets
 pub mod DialNotes

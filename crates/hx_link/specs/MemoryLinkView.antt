@@ -24,6 +24,7 @@ link_view m = record {
     on_loop = option_map (λ t. t.0) m.on_loop;
     tag = Some m.plan.line;
     dial = option_map (λ d. (d.0.0, d.1.0)) m.dial;
+    plan = Some m.plan;
   };
   calls = m.calls;
   starved = m.starved;

@@ -33,6 +33,7 @@ new_state plan = record {
   on_loop = None;
   tag = Some plan.line;
   dial = None;
+  plan = Some plan;
 }
 
 -- a link of this plan before its first call
@@ -62,9 +63,10 @@ pub record CannotFail (m : MemoryLinkNow) : Type 0 where
   pub taken : m.state.taken_count < most_bytes
   pub sent : m.state.sent_count < most_bytes
 
--- what was taken stands at the front of the plan, the end was told only where the plan has one and all was taken,
+-- it tells its plan, what was taken stands at the front of the plan, the end was told only where the plan has one and all was taken,
 -- where a read waited last, nothing was due at that moment, and where no call may have failed, none did
 pub record KeepsPlan (m : MemoryLinkNow) : Type 0 where
+  pub told : m.state.plan ≡ Some m.plan
   pub taken : m.state.taken ≡ Some (take m.state.taken_count (planned m.plan.pieces))
   pub within : m.state.taken_count ≤ length (planned m.plan.pieces)
   pub ended : m.state.told_end ≡ true → (m.state.taken_count ≡ length (planned m.plan.pieces)) × IsSome m.plan.end

@@ -22,6 +22,37 @@ fn a_pipe_takes_what_fits_and_gives_its_bytes_in_order(rt: HostRuntime) -> Resul
     Ok(())
 }
 
+/// A link that gives `abcde` and takes at most two bytes a write.
+fn narrow_link(alloc: Global) -> Result<MemoryLink, Fail> {
+    let piece = Piece {
+        at: Millis(0),
+        after: 0,
+        bytes: Bytes::from_vec(Vec::from_slice(alloc, b"abcde")?),
+    };
+    Ok(MemoryLink::new(Plan {
+        line: 1,
+        server: None,
+        refuse: false,
+        pieces: Items::from_vec(vec![in alloc; piece]?),
+        end: None,
+        room: Some(2),
+        fail: None,
+    }))
+}
+
+#[test]
+fn bytes_move_between_a_link_and_a_pipe(rt: HostRuntime) -> Result<(), Fail> {
+    let mut link = narrow_link(rt.alloc())?;
+    let mut pipe = Pipe::new(rt.alloc(), 4)?;
+    assert_eq!(rt; read_into(&mut link, Millis(0), &mut pipe), Got::Bytes(4));
+    assert_eq!(rt; write_from(&mut link, Millis(0), &mut pipe), Put::Bytes(2));
+    assert!(rt; pipe.whole().starts_with(b"cd"));
+    assert_eq!(rt; read_into(&mut link, Millis(0), &mut pipe), Got::Bytes(1));
+    assert!(rt; pipe.whole().starts_with(b"cde"));
+    assert_eq!(rt; read_into(&mut link, Millis(0), &mut pipe), Got::NotYet);
+    Ok(())
+}
+
 /// Two bytes at once, none after many, three more at 10 once two were sent, the end at 20 once three were.
 fn some_plan(alloc: Global, room: Option<u64>, fail: Option<u64>) -> Result<Plan, Fail>
     ensures room { IfOk result (λ p. p.room ≡ room) }
