@@ -31,6 +31,7 @@ put_count put.Failed = 0
 -- one read of the link; what it gave stands at the pipe's end
 pub record ReadsInto (old new : LinkState) (now : ℕ) (before after : PipeNow) (result : Got) : Type 0 where
   pub into : List ℕ
+  pub size : length into ≡ read_room before
   pub reads : LinkReads old new now result into
   pub gains : after ≡ pipe (before.bytes ++ take (got_count result) into) before.capacity
 
