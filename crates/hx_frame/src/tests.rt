@@ -26,8 +26,8 @@ fn answer_kind(method: MethodKind, text: &[u8]) -> Option<Framed> {
 }
 
 #[test]
-fn requests(rt: HostRuntime) {
-    let cases: [(&[u8], Framed); 17] = [
+fn lengths_of_requests(rt: HostRuntime) {
+    let cases: [(&[u8], Framed); 4] = [
         (b"GET / HTTP/1.1\r\nHost: h\r\n\r\n", Ok(BodyKind::Nothing)),
         (
             b"POST / HTTP/1.1\r\nHost: h\r\nContent-Length: 0\r\n\r\n",
@@ -38,12 +38,21 @@ fn requests(rt: HostRuntime) {
             Ok(BodyKind::Length(9_223_372_036_854_775_807)),
         ),
         (
-            b"POST / HTTP/1.1\r\nHost: h\r\nContent-Length: 9223372036854775808\r\n\r\n",
-            Err(FrameFault::BadLength),
-        ),
-        (
             b"POST / HTTP/1.1\r\nHost: h\r\nContent-Length: 0000000000000000005\r\n\r\n",
             Ok(BodyKind::Length(5)),
+        ),
+    ];
+    for (text, want) in cases {
+        assert_eq!(rt; request_kind(text), Some(want));
+    }
+}
+
+#[test]
+fn lengths_of_requests_that_are_refused(rt: HostRuntime) {
+    let cases: [(&[u8], Framed); 7] = [
+        (
+            b"POST / HTTP/1.1\r\nHost: h\r\nContent-Length: 9223372036854775808\r\n\r\n",
+            Err(FrameFault::BadLength),
         ),
         (
             b"POST / HTTP/1.1\r\nHost: h\r\nContent-Length: 00000000000000000005\r\n\r\n",
@@ -66,6 +75,19 @@ fn requests(rt: HostRuntime) {
             Err(FrameFault::SeveralLengths),
         ),
         (
+            b"POST / HTTP/1.1\r\nContent-Length: x\r\n\r\n",
+            Err(FrameFault::BadLength),
+        ),
+    ];
+    for (text, want) in cases {
+        assert_eq!(rt; request_kind(text), Some(want));
+    }
+}
+
+#[test]
+fn codings_and_hosts_of_requests(rt: HostRuntime) {
+    let cases: [(&[u8], Framed); 6] = [
+        (
             b"POST / HTTP/1.1\r\nHost: h\r\nTransfer-Encoding: Chunked\r\n\r\n",
             Ok(BodyKind::Chunked),
         ),
@@ -81,10 +103,6 @@ fn requests(rt: HostRuntime) {
             b"POST / HTTP/1.1\r\nTransfer-Encoding: chunked\r\nTransfer-Encoding: chunked\r\nContent-Length: 5\r\n\r\n",
             Err(FrameFault::UnknownCoding),
         ),
-        (
-            b"POST / HTTP/1.1\r\nContent-Length: x\r\n\r\n",
-            Err(FrameFault::BadLength),
-        ),
         (b"GET / HTTP/1.1\r\n\r\n", Err(FrameFault::BadHost)),
         (
             b"GET / HTTP/1.1\r\nHost: h\r\nhost: h\r\n\r\n",
@@ -97,12 +115,44 @@ fn requests(rt: HostRuntime) {
 }
 
 #[test]
-fn answers(rt: HostRuntime) {
-    let other = MethodKind::Other;
-    let cases: [(MethodKind, &[u8], Framed); 10] = [
-        (other, b"HTTP/1.1 200 OK\r\n\r\n", Ok(BodyKind::ToEnd)),
+fn answers_without_a_body(rt: HostRuntime) {
+    let cases: [(MethodKind, &[u8], Framed); 4] = [
         (
-            other,
+            MethodKind::Head,
+            b"HTTP/1.1 200 OK\r\nContent-Length: 10\r\n\r\n",
+            Ok(BodyKind::Nothing),
+        ),
+        (
+            MethodKind::Other,
+            b"HTTP/1.1 204 No\r\nContent-Length: 10\r\n\r\n",
+            Ok(BodyKind::Nothing),
+        ),
+        (
+            MethodKind::Other,
+            b"HTTP/1.1 304 No\r\nTransfer-Encoding: gzip\r\n\r\n",
+            Ok(BodyKind::Nothing),
+        ),
+        (
+            MethodKind::Other,
+            b"HTTP/1.1 100 Go\r\nContent-Length: 1, 2\r\n\r\n",
+            Ok(BodyKind::Nothing),
+        ),
+    ];
+    for (method, text, want) in cases {
+        assert_eq!(rt; answer_kind(method, text), Some(want));
+    }
+}
+
+#[test]
+fn answers_with_a_body(rt: HostRuntime) {
+    let cases: [(MethodKind, &[u8], Framed); 6] = [
+        (
+            MethodKind::Other,
+            b"HTTP/1.1 200 OK\r\n\r\n",
+            Ok(BodyKind::ToEnd),
+        ),
+        (
+            MethodKind::Other,
             b"HTTP/1.1 200 OK\r\nContent-Length: 2\r\n\r\n",
             Ok(BodyKind::Length(2)),
         ),
@@ -112,37 +162,17 @@ fn answers(rt: HostRuntime) {
             Ok(BodyKind::Chunked),
         ),
         (
-            MethodKind::Head,
-            b"HTTP/1.1 200 OK\r\nContent-Length: 10\r\n\r\n",
-            Ok(BodyKind::Nothing),
-        ),
-        (
-            other,
-            b"HTTP/1.1 204 No\r\nContent-Length: 10\r\n\r\n",
-            Ok(BodyKind::Nothing),
-        ),
-        (
-            other,
-            b"HTTP/1.1 304 No\r\nTransfer-Encoding: gzip\r\n\r\n",
-            Ok(BodyKind::Nothing),
-        ),
-        (
-            other,
-            b"HTTP/1.1 100 Go\r\nContent-Length: 1, 2\r\n\r\n",
-            Ok(BodyKind::Nothing),
-        ),
-        (
-            other,
+            MethodKind::Other,
             b"HTTP/1.0 200 OK\r\nTransfer-Encoding: chunked\r\n\r\n",
             Err(FrameFault::UnknownCoding),
         ),
         (
-            other,
+            MethodKind::Other,
             b"HTTP/1.0 200 OK\r\nContent-Length: 3\r\n\r\n",
             Ok(BodyKind::Length(3)),
         ),
         (
-            other,
+            MethodKind::Other,
             b"HTTP/1.1 200 OK\r\nTransfer-Encoding: chunked\r\nContent-Length: 2\r\n\r\n",
             Err(FrameFault::BothLengths),
         ),

@@ -11,3 +11,8 @@ pub mod Places
 pub mod MemoryLinkView
 pub mod Pipes
 pub mod PipeLends
+pub mod Moves
+pub mod Nets
+pub mod MemoryNets
+pub mod DialNotes
+pub mod MemoryNetView

@@ -1,9 +1,9 @@
 -- Private: how the fields of a link in memory stand for what it tells.
-use Rattle.std.specs.Prelude.{◌≡◌, ◌≤◌, true, length, take, Some, None, IsSome, IfSome, option_map}
+use Rattle.std.specs.Prelude.{◌≡◌, ◌≤◌, true, length, take, Some, IsSome, IfSome, option_map}
 use Rattle.hx_link.specs.Told.{most_bytes}
 use Rattle.hx_link.specs.Planned.{planned}
 use Rattle.hx_link.specs.Places.{IsPlace}
-use Rattle.hx_link.specs.MemoryLinks.{MemoryLinkNow, WaitsFor}
+use Rattle.hx_link.specs.MemoryLinks.{MemoryLinkNow, WaitsFor, CannotFail}
 use Rattle.hx_link.specs.declared.memory_link.MemoryLink.TheInside.{Inside}
 
 abbrev pub link_view : Inside → MemoryLinkNow
@@ -23,7 +23,8 @@ link_view m = record {
     told_end = m.ended;
     on_loop = option_map (λ t. t.0) m.on_loop;
     tag = Some m.plan.line;
-    dial = None;
+    dial = option_map (λ d. (d.0.0, d.1.0)) m.dial;
+    plan = Some m.plan;
   };
   calls = m.calls;
   starved = m.starved;
@@ -36,3 +37,4 @@ pub record IsLink (m : Inside) : Type 0 where
   pub ended : m.ended ≡ true → (m.at.taken ≡ length (planned m.plan.pieces)) × IsSome m.plan.end
   pub room : IfSome m.plan.room (λ n. 1 ≤ n)
   pub waits : m.read_waited ≡ true → WaitsFor m.plan m.at.taken (length m.sent.items) m.read_wait_at
+  pub faults : CannotFail (link_view m) → m.faults ≡ 0

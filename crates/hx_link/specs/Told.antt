@@ -2,6 +2,7 @@
 -- Counts of faults and of waits are kept in a u64 and stand still at its end.
 use Rattle.std.specs.Prelude.{◌≡◌, ℕ, ◌-◌, ◌^◌, ◌≤◌, Bool, false, List, length, Option, None, IfSome}
 use Rattle.hx_base.specs.Counts.{Rose}
+use Rattle.hx_link.specs.declared.plan.Plan.{Plan}
 
 pub record SourceState : Type 0 where
   -- how often it failed
@@ -38,6 +39,8 @@ pub record LinkState : Type 0 where
   pub tag : Option ℕ
   -- the server and the id of its dial, where it tells them
   pub dial : Option (ℕ × ℕ)
+  -- the plan that it follows, where it tells one
+  pub plan : Option Plan
 
 -- a fault or a wait was counted: the count rose, or stands at its end, and didn't fall
 abbrev pub CountsOne : ℕ → ℕ → Type 0

@@ -1,7 +1,8 @@
 //! A link in memory, which follows a plan.
-ghost use Rattle.std.specs.Prelude.{◌≡◌, ◌≤◌, ◌<◌, length, Some, IfSome, IfOk};
+ghost use Rattle.std.specs.Prelude.{◌≡◌, ◌≤◌, ◌<◌, length, Some, IfSome, IfOk, option_map};
 ghost use Rattle.hx_link.specs.Planned.{fails_at, room_in};
-ghost use Rattle.hx_link.specs.MemoryLinks.{new_link, KeepsPlan};
+ghost use Rattle.hx_link.specs.MemoryLinks.{new_link, begun_link, with_loop, KeepsPlan};
+ghost use Rattle.hx_link.specs.MemoryNets.{dialled_link, IsPlan};
 ghost use Rattle.hx_link.specs.MemoryCauses.{MemoryReads, MemoryWrites};
 
 use crate::answers::{Got, Put};
@@ -9,7 +10,7 @@ use crate::link::Link;
 use crate::link_bytes::{LinkBytes, join_pieces};
 use crate::place::{Due, MOST_TAKEN, Place, find_due, give_next, pass_taken};
 use crate::plan::Plan;
-use hx_base::{Bytes, Millis, NoMemory, ThreadNo};
+use hx_base::{Bytes, ConnId, Millis, NoMemory, ServerNo, ThreadNo};
 use std::marker::Model;
 
 /// The most bytes that are sent on a link.
@@ -29,6 +30,8 @@ pub struct MemoryLink {
     ended: bool,
     starved: bool,
     on_loop: Option<ThreadNo>,
+    /// The server and the id for which a net dialled it.
+    dial: Option<(ServerNo, ConnId)>,
 }
 
 impl Model for MemoryLink {
@@ -70,6 +73,22 @@ impl MemoryLink {
         requires fail { IfSome plan.fail (λ n. 1 ≤ n) }
         ensures begins { result ≡ new_link plan }
     {
+        MemoryLink::begin(plan, None)
+    }
+
+    /// The link that a dial of this server and id gives.
+    pub(crate) fn dialled(plan: Plan, server: ServerNo, id: ConnId) -> MemoryLink
+        requires plan { IsPlan plan }
+        ensures begins { result ≡ dialled_link server id plan }
+    {
+        MemoryLink::begin(plan, Some((server, id)))
+    }
+
+    fn begin(plan: Plan, dial: Option<(ServerNo, ConnId)>) -> MemoryLink
+        requires room { IfSome plan.room (λ n. 1 ≤ n) }
+        requires fail { IfSome plan.fail (λ n. 1 ≤ n) }
+        ensures begins { result ≡ begun_link plan (option_map (λ d. (d.0.0, d.1.0)) dial) }
+    {
         let alloc = plan.pieces.allocator();
         MemoryLink {
             plan,
@@ -87,7 +106,22 @@ impl MemoryLink {
             ended: false,
             starved: false,
             on_loop: None,
+            dial,
         }
+    }
+
+    /// The script line of its plan.
+    pub(crate) fn tag(&self) -> u32
+        ensures { Some result ≡ self.now.state.tag }
+    {
+        self.plan.line
+    }
+
+    /// Attaches it to the loop of that thread, or to none.
+    pub(crate) fn set_loop(&mut self, on_loop: Option<ThreadNo>)
+        ensures { self.new ≡ with_loop (option_map (λ t. t.0) on_loop) self.old }
+    {
+        self.on_loop = on_loop;
     }
 
     /// Whether a write found no memory.

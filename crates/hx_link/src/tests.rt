@@ -1,8 +1,9 @@
 //! What no clause says, and the memory implementations on worked values.
-ghost use Rattle.std.specs.Prelude.{◌≡◌, ◌≤◌, IfOk, IfSome};
+ghost use Rattle.std.specs.Prelude.{◌≡◌, ◌≤◌, All, IfOk, IfSome};
+ghost use Rattle.hx_link.specs.MemoryNets.{IsPlan};
 
 use crate::*;
-use hx_base::{Bytes, Items, Millis};
+use hx_base::{Address, Bytes, ConnId, Host, Items, Millis, ServerNo, ThreadNo};
 use std::alloc::Global;
 use std::io::{self, Read, Write};
 use std::process::Abort;
@@ -18,6 +19,37 @@ fn a_pipe_takes_what_fits_and_gives_its_bytes_in_order(rt: HostRuntime) -> Resul
     assert_eq!(rt; pipe.fill(b"efg"), 3);
     assert!(rt; pipe.whole().starts_with(b"defg"));
     assert_eq!(rt; pipe.fill(b"h"), 0);
+    Ok(())
+}
+
+/// A link that gives `abcde` and takes at most two bytes a write.
+fn narrow_link(alloc: Global) -> Result<MemoryLink, Fail> {
+    let piece = Piece {
+        at: Millis(0),
+        after: 0,
+        bytes: Bytes::from_vec(Vec::from_slice(alloc, b"abcde")?),
+    };
+    Ok(MemoryLink::new(Plan {
+        line: 1,
+        server: None,
+        refuse: false,
+        pieces: Items::from_vec(vec![in alloc; piece]?),
+        end: None,
+        room: Some(2),
+        fail: None,
+    }))
+}
+
+#[test]
+fn bytes_move_between_a_link_and_a_pipe(rt: HostRuntime) -> Result<(), Fail> {
+    let mut link = narrow_link(rt.alloc())?;
+    let mut pipe = Pipe::new(rt.alloc(), 4)?;
+    assert_eq!(rt; read_into(&mut link, Millis(0), &mut pipe), Got::Bytes(4));
+    assert_eq!(rt; write_from(&mut link, Millis(0), &mut pipe), Put::Bytes(2));
+    assert!(rt; pipe.whole().starts_with(b"cd"));
+    assert_eq!(rt; read_into(&mut link, Millis(0), &mut pipe), Got::Bytes(1));
+    assert!(rt; pipe.whole().starts_with(b"cde"));
+    assert_eq!(rt; read_into(&mut link, Millis(0), &mut pipe), Got::NotYet);
     Ok(())
 }
 
@@ -43,6 +75,88 @@ fn some_plan(alloc: Global, room: Option<u64>, fail: Option<u64>) -> Result<Plan
         room,
         fail,
     })
+}
+
+/// A plan of a server without pieces.
+fn server_plan(alloc: Global, line: u32, server: u16, refuse: bool) -> Plan
+    ensures { IsPlan result }
+{
+    Plan {
+        line,
+        server: Some(ServerNo(server)),
+        refuse,
+        pieces: Items::from_vec(Vec::new(alloc)),
+        end: None,
+        room: None,
+        fail: None,
+    }
+}
+
+/// Plans of lines 1, 2 and 4 for server 0, of which the second refuses, and of line 3 for server 1.
+fn server_plans(alloc: Global) -> Result<Vec<Plan>, Fail>
+    ensures { IfOk result (λ plans. All IsPlan plans.items) }
+{
+    let plans = [
+        server_plan(alloc, 1, 0, false),
+        server_plan(alloc, 2, 0, true),
+        server_plan(alloc, 3, 1, false),
+        server_plan(alloc, 4, 0, false),
+    ];
+    Ok(Vec::from_array(alloc, plans)?)
+}
+
+const ADDRESS: Address = Address {
+    host: Host::Local,
+    port: 1,
+};
+
+#[test]
+fn each_dial_uses_its_servers_next_plan(rt: HostRuntime) -> Result<(), Fail> {
+    let mut net = MemoryNet::new(rt.alloc(), server_plans(rt.alloc())?, 1)?;
+    // The server of a dial, and the line of the link that it gives.
+    let rows = [
+        (0, Some(1)),
+        (1, Some(3)),
+        (0, None),
+        (0, Some(4)),
+        (0, None),
+        (1, None),
+        (2, None),
+    ];
+    for (server, line) in rows {
+        let dialled = net.dial(ServerNo(server), &ADDRESS, ConnId(9), Millis(0));
+        assert_eq!(rt; dialled.as_ref().ok().map(|link| link.tag()), line);
+        if let Ok(link) = dialled {
+            net.bury(link);
+        }
+    }
+    assert!(rt; !net.starved());
+    // The second and the third burial are past the room.
+    let mut lines = [0; 3];
+    for (line, link) in lines.iter_mut().zip(net.into_buried()) {
+        *line = link.tag();
+    }
+    assert_eq!(rt; lines, [1, 3, 4]);
+    Ok(())
+}
+
+#[test]
+fn the_named_attach_fails_and_no_other(rt: HostRuntime) -> Result<(), Fail> {
+    let mut net = MemoryNet::new(rt.alloc(), server_plans(rt.alloc())?, 1)?;
+    net.turn_to(ThreadNo(3));
+    assert_eq!(rt; net.loop_no(), ThreadNo(3));
+    let mut link = net
+        .dial(ServerNo(0), &ADDRESS, ConnId(1), Millis(0))
+        .ok()
+        .ok_or("no link")?;
+    net.fail_attach(2);
+    for answer in [Ok(()), Err(NetFault), Ok(()), Ok(())] {
+        net.detach(&mut link);
+        assert_eq!(rt; net.attach(&mut link), answer);
+    }
+    net.pause(Millis(1));
+    net.bury(link);
+    Ok(())
 }
 
 /// Reads pieces of so many bytes until something else is answered.

@@ -1,0 +1,24 @@
+-- Private: how the fields of a net in memory stand for what it tells.
+use Rattle.std.specs.Prelude.{◌-◌, map, All, vec_capacity, vec_len}
+use Rattle.hx_link.specs.declared.memory_net.MemoryNet.TheInside.{Inside}
+use Rattle.hx_link.specs.MemoryLinks.{state_of}
+use Rattle.hx_link.specs.MemoryNets.{MemoryNetNow, IsPlan}
+use Rattle.hx_link.specs.DialNotes.{where_told, note_told}
+
+abbrev pub net_view : Inside → MemoryNetNow
+net_view m = record {
+  state = record {
+    faults = m.faults;
+    loop_no = m.thread.0;
+    dials = where_told m.telling (map note_told m.dials.items);
+    buried = where_told m.telling (map state_of m.buried.items);
+  };
+  plans = m.plans.items;
+  links = where_told m.telling m.buried.items;
+  room = vec_capacity m.buried - vec_len m.buried;
+  failing = m.failing;
+  starved = m.starved;
+}
+
+abbrev pub HasPlans : Inside → Type 0
+HasPlans m = All IsPlan m.plans.items
