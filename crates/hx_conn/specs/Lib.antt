@@ -1,0 +1,5 @@
+pub mod Causes
+pub mod Conns
+pub mod Steps
+pub mod WhatTold
+pub mod Views
