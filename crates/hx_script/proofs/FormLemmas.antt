@@ -99,13 +99,6 @@ by_value = numerals_by_value (λ ds. all_ascii_digits ds ≡ true) tells_all_asc
 number_digits : (n : ℕ) → IsNumber n → list_all is_ascii_digit (decimal n) ≡ true
 number_digits n lt = all_digits (decimal n) (digits_decimal by_value n lt)
 
--- a number is told apart from what follows it by the first byte that is no digit
-pub same_number : (m n : ℕ) (r s : List ℕ) (c : ℕ) → IsNumber m → IsNumber n → is_ascii_digit c ≡ false
-    → decimal m ++ c ∷ r ≡ decimal n ++ c ∷ s → (m ≡ n) × (r ≡ s)
-same_number m n r s c x y stop is =
-    let front = same_front is_ascii_digit c (decimal m) (decimal n) r s (number_digits m x) (number_digits n y) stop is in
-    (decimal_injective m n x y front.0, front.1)
-
 limit_from_digits : (xs : List ℕ) → list_all is_ascii_digit xs ≡ true → list_all is_limit_byte xs ≡ true
 limit_from_digits [] is = refl
 limit_from_digits (b ∷ xs) is =

@@ -25,7 +25,7 @@ abbrev pub IsServer : ServerPart → Type 0
 IsServer p = IsToldServer p × HasServerNumbers p
 
 abbrev IsBare : ServerPart → Type 0
-IsBare p = IsName p.back × IsName p.server × IsLimit p.rules.max × All IsNumber (rule_numbers p) × (p.marks ≡ [])
+IsBare p = IsName p.back × IsName p.server × IsLimit p.rules.max × All IsNumber (rule_numbers p.rules) × (p.marks ≡ [])
 
 abbrev limit_of : Value → Option ℕ
 limit_of (limit max) = max
