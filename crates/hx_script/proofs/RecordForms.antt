@@ -1,31 +1,22 @@
 -- The lines of records: their forms, their values, and how values are read back.
-use Rattle.std.proofs.Common.{◌≡◌, ℕ, ◌+◌, ◌<◌, Bool, true, false, cond, ◌&&◌, List, [], ◌∷◌, ◌++◌, All, Some, None, get_or, length, refl, ap, ◌∙◌, append_assoc, lit<}
-use Rattle.std.specs.Prelude.{decimal, codes, ◌==◌, not, if◌then◌else◌, ⊤}
-use Rattle.std.specs.List.{list_all}
+use Rattle.std.proofs.Common.{ℕ, ◌+◌, Bool, List, [], ◌∷◌}
+use Rattle.std.specs.Prelude.{codes, ◌==◌, if◌then◌else◌}
 use Rattle.std.specs.Str.{bytes_eq}
-use Rattle.hx_base.specs.declared.numbers.ThreadNo.{ThreadNo}
-use Rattle.hx_base.specs.declared.numbers.SessionNo.{SessionNo}
-use Rattle.hx_base.specs.declared.numbers.ServerNo.{ServerNo}
-use Rattle.hx_base.specs.declared.numbers.ConnId.{ConnId}
 use Rattle.hx_base.specs.declared.numbers.Span.{Span}
 use Rattle.hx_record.specs.declared.served.Carried.{Carried}
 use Rattle.hx_record.specs.declared.served.CutCause.{CutCause}
 use Rattle.hx_record.specs.declared.served.CutCause.TheVariants as cut
 use Rattle.hx_record.specs.declared.served.Kind.{Kind}
 use Rattle.hx_record.specs.declared.served.Kind.TheVariants as kind
-use Rattle.hx_record.specs.declared.served.Left.{Left}
 use Rattle.hx_record.specs.declared.served.LeftCause.{LeftCause}
 use Rattle.hx_record.specs.declared.served.LeftCause.TheVariants as cause
 use Rattle.hx_record.specs.declared.served.Served.{Served}
 use Rattle.hx_record.specs.declared.served.Told.{Told}
 use Rattle.hx_record.specs.declared.served.Told.TheVariants as told
 use Rattle.hx_script.specs.declared.transcript.ServerPart.{ServerPart}
-use Rattle.hx_script.specs.MarkLines.{who}
-use Rattle.hx_script.specs.RecordLines.{span_text, conn_text, closing_text, cut_closing_text, cut_text, cause_text, link_ranges, carried_text, begin_text, kind_line, left_line, record_line}
-use Rattle.hx_script.specs.PrintedForm.{is_name_byte, IsToldKind, IsToldRecord}
-use Rattle.hx_script.specs.Numbers.{IsNumber, carried_numbers, kind_numbers, told_numbers}
-use Rattle.hx_script.proofs.FormLemmas.{Value, number, name, a_number, a_name, Form, is_form, text, AreOf, IsLines, number_at, name_at}
-use Rattle.hx_script.proofs.NamedServers.{AreNamed, back_at, server_at, found_at, named, found, conn_is}
+use Rattle.hx_script.specs.RecordLines.{cut_text, cause_text}
+use Rattle.hx_script.proofs.FormLemmas.{Value, number, name, a_number, a_name, Form, number_at, name_at}
+use Rattle.hx_script.proofs.NamedServers.{back_at, server_at, found_at}
 
 -- ---- the forms
 

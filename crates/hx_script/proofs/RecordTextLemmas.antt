@@ -1,32 +1,25 @@
 -- The lines of records: each is told from every other, whatever follows it.
-use Rattle.std.proofs.Common.{◌≡◌, ℕ, ◌+◌, ◌<◌, Bool, true, false, cond, ◌&&◌, List, [], ◌∷◌, ◌++◌, All, Some, None, get_or, length, refl, ap, ◌∙◌, append_assoc, lit<}
-use Rattle.std.specs.Prelude.{decimal, codes, ◌==◌, not, if◌then◌else◌, ⊤}
+use Rattle.std.proofs.Common.{◌≡◌, ℕ, ◌<◌, Bool, true, false, List, [], ◌∷◌, ◌++◌, All, length, refl, append_assoc, lit<}
+use Rattle.std.specs.Prelude.{codes}
 use Rattle.std.specs.List.{list_all}
 use Rattle.std.specs.Str.{bytes_eq}
-use Rattle.hx_base.specs.declared.numbers.ThreadNo.{ThreadNo}
-use Rattle.hx_base.specs.declared.numbers.SessionNo.{SessionNo}
-use Rattle.hx_base.specs.declared.numbers.ServerNo.{ServerNo}
-use Rattle.hx_base.specs.declared.numbers.ConnId.{ConnId}
-use Rattle.hx_base.specs.declared.numbers.Span.{Span}
 use Rattle.hx_record.specs.declared.served.Carried.{Carried}
 use Rattle.hx_record.specs.declared.served.CutCause.{CutCause}
 use Rattle.hx_record.specs.declared.served.CutCause.TheVariants as cut
 use Rattle.hx_record.specs.declared.served.Kind.{Kind}
 use Rattle.hx_record.specs.declared.served.Kind.TheVariants as kind
-use Rattle.hx_record.specs.declared.served.Left.{Left}
 use Rattle.hx_record.specs.declared.served.LeftCause.{LeftCause}
 use Rattle.hx_record.specs.declared.served.LeftCause.TheVariants as cause
 use Rattle.hx_record.specs.declared.served.Served.{Served}
 use Rattle.hx_record.specs.declared.served.Told.{Told}
 use Rattle.hx_record.specs.declared.served.Told.TheVariants as told
 use Rattle.hx_script.specs.declared.transcript.ServerPart.{ServerPart}
-use Rattle.hx_script.specs.MarkLines.{who}
-use Rattle.hx_script.specs.RecordLines.{span_text, conn_text, closing_text, cut_closing_text, cut_text, cause_text, link_ranges, carried_text, begin_text, kind_line, left_line, record_line}
+use Rattle.hx_script.specs.RecordLines.{closing_text, cut_closing_text, cut_text, cause_text, carried_text, begin_text, kind_line, record_line}
 use Rattle.hx_script.specs.PrintedForm.{is_name_byte, IsToldKind, IsToldRecord}
 use Rattle.hx_script.specs.Numbers.{IsNumber, carried_numbers, kind_numbers, told_numbers}
-use Rattle.hx_script.proofs.FormLemmas.{Value, number, name, a_number, a_name, Form, is_form, text, AreOf, IsLines, number_at, name_at}
-use Rattle.hx_script.proofs.NamedServers.{AreNamed, back_at, server_at, found_at, named, found, conn_is}
-use Rattle.hx_script.proofs.RecordForms.{span_form, begin_form, carried_form, form_after, word_after, initial_of, initial, begin_values, span_values, carried_values, closing_word, cut_closing_word, kind_values, values_of, span_at, cut_of, cause_of, carried_back, served_back, record_back}
+use Rattle.hx_script.proofs.FormLemmas.{Value, name, a_name, Form, is_form, text, AreOf, IsLines}
+use Rattle.hx_script.proofs.NamedServers.{AreNamed, named, found, conn_is}
+use Rattle.hx_script.proofs.RecordForms.{carried_form, form_after, word_after, initial_of, initial, carried_values, closing_word, cut_closing_word, kind_values, values_of, cut_of, cause_of, record_back}
 
 -- ---- each line is so
 
@@ -110,9 +103,34 @@ carried_fits : (servers : List ServerPart) (s : Served) (c : Carried) (form : Fo
     → AreOf form values → AreOf (carried_form form) (carried_values servers s c values)
 carried_fits servers s c form values are lt n more =
     let names = named servers c.server.0 lt are.told in
-    let k = λ (i : ℕ) (there : i < 13). n i 0 there in
-    (k 0 (lit< tt), (k 1 (lit< tt), (k 2 (lit< tt), (names.0, (names.1, (k 7 (lit< tt), (k 8 (lit< tt), (k 3 (lit< tt), (k 4 (lit< tt),
-    (k 9 (lit< tt), (k 10 (lit< tt), (k 11 (lit< tt), (k 12 (lit< tt), (k 5 (lit< tt), (k 6 (lit< tt), more)))))))))))))))
+    let k = λ (i : ℕ) (there : i < 13). n i 0 there in (
+      k 0 (lit< tt),
+      (
+        k 1 (lit< tt),
+        (
+          k 2 (lit< tt),
+          (
+            names.0,
+            (
+              names.1,
+              (
+                k 7 (lit< tt),
+                (
+                  k 8 (lit< tt),
+                  (
+                    k 3 (lit< tt),
+                    (
+                      k 4 (lit< tt),
+                      (k 9 (lit< tt), (k 10 (lit< tt), (k 11 (lit< tt), (k 12 (lit< tt), (k 5 (lit< tt), (k 6 (lit< tt), more)))))),
+                    ),
+                  ),
+                ),
+              ),
+            ),
+          ),
+        ),
+      ),
+    )
 
 kind_fits : (servers : List ServerPart) (s : Served) (k : Kind) → HasKind servers s k → AreOf (form_after (initial_of k)) (kind_values servers s k)
 kind_fits servers s (kind.Passed c) ok =

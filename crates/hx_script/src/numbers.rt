@@ -72,8 +72,7 @@ fn records_fit(records: &[Told])
 
 fn byte_fits(b: u8)
     ensures { IsByte b }
-{
-}
+{}
 
 fn bytes_fit(bytes: &[u8])
     ensures { All IsByte bytes.now }
@@ -85,8 +84,7 @@ fn bytes_fit(bytes: &[u8])
 
 fn who_fits(t: ThreadNo, n: SessionNo)
     ensures { All IsNumber (t.0 ∷ n.0 ∷ []) }
-{
-}
+{}
 
 fn client_fits(client: &ClientBytes)
     ensures { HasClientNumbers client.now }
@@ -106,8 +104,7 @@ fn clients_fit(clients: &[ClientBytes])
 
 fn id_fits(id: ConnId)
     ensures { IsNumber id.0 }
-{
-}
+{}
 
 fn conn_fits(conn: &ConnBytes)
     ensures { HasConnNumbers conn.now }
@@ -127,8 +124,7 @@ fn conns_fit(conns: &[ConnBytes])
 
 fn sums_fit(totals: Totals)
     ensures { All IsNumber (total_numbers totals) }
-{
-}
+{}
 
 fn totals_fit(totals: &[Totals])
     ensures { All (λ s. All IsNumber (total_numbers s)) totals.now }
