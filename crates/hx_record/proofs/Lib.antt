@@ -1,2 +1,3 @@
 pub mod TrueSamples
 pub mod WrongSamples
+pub mod CutSampleLemmas

@@ -115,7 +115,7 @@ persists_so = (answer_head, Length 2, is_answer, refl, has_end)
 
 -- ---- what goes out for them
 
-ask_goes_out : ForwardsRequest ask ask
+pub ask_goes_out : ForwardsRequest ask ask
 unfolding forwarded_request staying goes_on connection_options is_of_connection is_kept trim_ows
 ask_goes_out = inl (ask_head, [], asked, refl)
 

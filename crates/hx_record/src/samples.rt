@@ -1,4 +1,7 @@
 //! The definitions, tried on records of one exchange and of two. Each function is there for its clauses.
+ghost use Rattle.hx_record.specs.declared.served.CutCause.TheVariants as cut;
+ghost use Rattle.hx_record.specs.declared.served.LeftCause.TheVariants as cause;
+ghost use Rattle.hx_record.specs.CutSamples.{cut_at, own_answer, own_begun, own_of, part_asked, part_carried, RecountsLeft, RecountsOwn};
 ghost use Rattle.hx_record.specs.Samples.{client, closed_untold, closing_answer, ask, answer, first, gap_in_asks, gap_in_sent, gave_too_short, ask_too_short, one_asked, one_carried, one_record, other_answer, second, second_as, told_after_end, two_asked, two_carried, two_records, Recounts};
 ghost use Rattle.hx_record.specs.Tiles.{TilesClient, TilesConn};
 
@@ -32,4 +35,19 @@ fn wrong_ranges()
     ensures gap_in_asks { ¬ TilesClient gap_in_asks two_asked }
     ensures gap_in_sent { ¬ TilesConn gap_in_sent two_carried }
     ensures told_after_end { ¬ TilesClient told_after_end two_asked }
+{}
+
+/// An exchange whose answer came in part: the record has all of the part, and its cause is not that it came early.
+fn cut_exchange()
+    ensures is_true { RecountsLeft cause.Cut (cut_at 41 cut.Ended) part_asked part_carried }
+    ensures took_too_short { ¬ RecountsLeft cause.Cut (cut_at 40 cut.Ended) part_asked part_carried }
+    ensures not_early { ¬ RecountsLeft cause.Cut (cut_at 41 cut.Early) part_asked part_carried }
+{}
+
+/// An answer of the proxy's own is given whole, or in part where the client's link failed.
+fn own_answers()
+    ensures is_true { RecountsOwn cause.Own (own_of 503 74) (client ask own_answer) }
+    ensures in_part { RecountsOwn cause.Fault (own_of 503 12) (client ask own_begun) }
+    ensures not_whole { ¬ RecountsOwn cause.Own (own_of 503 12) (client ask own_begun) }
+    ensures other_status { ¬ RecountsOwn cause.Own (own_of 502 74) (client ask own_answer) }
 {}

@@ -1,14 +1,13 @@
 -- Lines are words with values between them, and a text is a line of one list of values alone.
-use Rattle.std.proofs.Common.{◌≡◌, ℕ, ◌^◌, ◌<◌, Bool, true, false, ◌&&◌, ◌||◌, List, [], ◌∷◌, ◌++◌, All, Option, Some, None, get_or, drop, refl, sym, ap, ap₂, subst, ◌∙◌, append_assoc}
+use Rattle.std.proofs.Common.{◌≡◌, ℕ, Bool, true, false, ◌&&◌, ◌||◌, List, [], ◌∷◌, ◌++◌, All, Option, Some, None, get_or, drop, refl, sym, ap, ap₂, subst, ◌∙◌}
 use Rattle.std.specs.Prelude.{decimal, codes, ◌==◌, not, ⊤}
-use Rattle.std.specs.List.{list_all, flat_map}
+use Rattle.std.specs.List.{list_all}
 use Rattle.std.specs.Char.{is_ascii_digit}
 use Rattle.std.specs.Str.{all_ascii_digits}
 use Rattle.std.specs.Str.Parse.{digits_value}
 use Rattle.std.proofs.lemmas.Bool.{and_parts}
 use Rattle.std.proofs.lemmas.List.{append_cancel_left}
-use Rattle.std.proofs.lemmas.List.Elements.{All-head, All-tail}
-use Rattle.std.proofs.lemmas.Fmt.{decimal_injective, decimal_nonempty, digits_decimal}
+use Rattle.std.proofs.lemmas.Fmt.{decimal_injective, digits_decimal}
 use Rattle.std.proofs.lemmas.Str.Parse.{IsNumeralModel, numerals_by_value, tells_all_ascii_digits}
 use Rattle.hx_script.specs.ByteText.{quoted}
 use Rattle.hx_script.specs.MarkLines.{max_text}
@@ -84,7 +83,7 @@ same_stopped : (test : ℕ → Bool) (word xs ys r s : List ℕ) → list_all te
     → (c : ℕ) (more : List ℕ) → word ≡ c ∷ more → test c ≡ false → xs ++ (word ++ r) ≡ ys ++ (word ++ s) → (xs ≡ ys) × (r ≡ s)
 same_stopped test word xs ys r s x y c more so stop is =
     let front = same_front test c xs ys (more ++ r) (more ++ s) x y stop
-        (ap (λ (w : List ℕ). xs ++ (w ++ r)) (sym so) ∙ is ∙ ap (λ (w : List ℕ). ys ++ (w ++ s)) so) in
+    (ap (λ (w : List ℕ). xs ++ (w ++ r)) (sym so) ∙ is ∙ ap (λ (w : List ℕ). ys ++ (w ++ s)) so) in
     (front.0, append_cancel_left more r s front.1)
 
 all_digits : (xs : List ℕ) → all_ascii_digits xs ≡ true → list_all is_ascii_digit xs ≡ true
@@ -98,13 +97,6 @@ by_value = numerals_by_value (λ ds. all_ascii_digits ds ≡ true) tells_all_asc
 
 number_digits : (n : ℕ) → IsNumber n → list_all is_ascii_digit (decimal n) ≡ true
 number_digits n lt = all_digits (decimal n) (digits_decimal by_value n lt)
-
--- a number is told apart from what follows it by the first byte that is no digit
-pub same_number : (m n : ℕ) (r s : List ℕ) (c : ℕ) → IsNumber m → IsNumber n → is_ascii_digit c ≡ false
-    → decimal m ++ c ∷ r ≡ decimal n ++ c ∷ s → (m ≡ n) × (r ≡ s)
-same_number m n r s c x y stop is =
-    let front = same_front is_ascii_digit c (decimal m) (decimal n) r s (number_digits m x) (number_digits n y) stop is in
-    (decimal_injective m n x y front.0, front.1)
 
 limit_from_digits : (xs : List ℕ) → list_all is_ascii_digit xs ≡ true → list_all is_limit_byte xs ≡ true
 limit_from_digits [] is = refl
@@ -216,5 +208,5 @@ same_line {A} V line ls a b r s x y same =
     tail ∙ ap (λ (k : ℕ). ls.word k ++ text (ls.form k) (ls.values b) s) (sym n) in
     let fit = subst (λ (k : ℕ). AreOf (ls.form k) (ls.values b)) (sym n) (ls.fits b y) in
     let one = same_values (ls.form (ls.first a)) (ls.values a) (ls.values b) r s (ls.formed a x) (ls.fits a x) fit
-        (append_cancel_left (ls.word (ls.first a)) (text (ls.form (ls.first a)) (ls.values a) r) (text (ls.form (ls.first a)) (ls.values b) s) here) in
+    (append_cancel_left (ls.word (ls.first a)) (text (ls.form (ls.first a)) (ls.values a) r) (text (ls.form (ls.first a)) (ls.values b) s) here) in
     (sym (ls.backed a x) ∙ ap₂ ls.back n one.0 ∙ ls.backed b y, one.1)

@@ -37,7 +37,7 @@ same_lines V line ls (a ∷ xs) [] r s x y p q is = absurd (none_more V line ls 
 same_lines {A} V line ls (a ∷ xs) (b ∷ ys) r s x y p q is =
     let e = sym (append_assoc (line a) (flat_map line xs) r) ∙ is ∙ append_assoc (line b) (flat_map line ys) s in
     let one = ls.tells a b (flat_map line xs ++ r) (flat_map line ys ++ s) (All-head V a xs x) (All-head V b ys y)
-        (follows_on V line ls xs r (All-tail V a xs x) p.follows) (follows_on V line ls ys s (All-tail V b ys y) q.follows) e in
+    (follows_on V line ls xs r (All-tail V a xs x) p.follows) (follows_on V line ls ys s (All-tail V b ys y) q.follows) e in
     let more = same_lines V line ls xs ys r s (All-tail V a xs x) (All-tail V b ys y) p q one.1 in
     (ap₂ (λ (v : A) (vs : List A). v ∷ vs) one.0 more.0, more.1)
 

@@ -1,6 +1,6 @@
 -- The lines of links' bytes and of totals are told from every other.
-use Rattle.std.proofs.Common.{◌≡◌, ℕ, ◌+◌, ◌<◌, Bool, true, false, cond, ◌&&◌, List, [], ◌∷◌, ◌++◌, All, Option, Some, None, get_or, length, refl, sym, ap, ap₂, ◌∙◌, append_assoc, arith, lit<}
-use Rattle.std.specs.Prelude.{decimal, codes, ◌==◌, not, ⊤}
+use Rattle.std.proofs.Common.{◌≡◌, ℕ, ◌<◌, Bool, true, List, [], ◌∷◌, ◌++◌, All, get_or, length, refl, sym, ap₂, ◌∙◌, append_assoc, arith, lit<}
+use Rattle.std.specs.Prelude.{decimal, codes, ◌==◌}
 use Rattle.std.proofs.lemmas.List.{append_cancel_left}
 use Rattle.std.proofs.lemmas.List.Elements.{All-head, All-tail}
 use Rattle.hx_base.specs.declared.totals.Totals.{Totals}
@@ -8,11 +8,11 @@ use Rattle.hx_record.specs.declared.bytes.ClientBytes.{ClientBytes}
 use Rattle.hx_record.specs.declared.bytes.ConnBytes.{ConnBytes}
 use Rattle.hx_script.specs.declared.transcript.ServerPart.{ServerPart}
 use Rattle.hx_script.specs.ByteText.{quoted}
-use Rattle.hx_script.specs.MarkLines.{who, full_name}
+use Rattle.hx_script.specs.MarkLines.{full_name}
 use Rattle.hx_script.specs.RecordLines.{conn_text}
 use Rattle.hx_script.specs.LinkLines.{client_lines, conn_lines, totals_text, totals_lines}
-use Rattle.hx_script.specs.Numbers.{IsNumber, IsByte, HasClientNumbers, HasConnNumbers, total_numbers}
-use Rattle.hx_script.proofs.FormLemmas.{Value, number, name, bytes, a_number, a_name, some_bytes, Form, is_form, text, AreOf, IsLines, same_line, number_at, name_at}
+use Rattle.hx_script.specs.Numbers.{IsNumber, HasClientNumbers, HasConnNumbers, total_numbers}
+use Rattle.hx_script.proofs.FormLemmas.{Value, number, name, bytes, a_number, a_name, some_bytes, Form, text, AreOf, IsLines, same_line, number_at, name_at}
 use Rattle.hx_script.proofs.LineLists.{AreLines, simple_lines}
 use Rattle.hx_script.proofs.NamedServers.{AreNamed, back_at, server_at, found_at, named, found, conn_is}
 
@@ -189,7 +189,7 @@ same_totals (p ∷ servers) (a ∷ xs) [] r s m n x y is = absurd (omega arith)
 same_totals (p ∷ servers) (a ∷ xs) (b ∷ ys) r s m n x y is =
     let line = λ (t : Totals) (rest more : List ℕ). append_assoc (full_name p ++ totals_text t) rest more ∙ append_assoc (full_name p) (totals_text t) (rest ++ more) in
     let e = append_cancel_left (full_name p) (totals_text a ++ (totals_lines servers xs ++ r)) (totals_text b ++ (totals_lines servers ys ++ s))
-        (sym (line a (totals_lines servers xs) r) ∙ is ∙ line b (totals_lines servers ys) s) in
+    (sym (line a (totals_lines servers xs) r) ∙ is ∙ line b (totals_lines servers ys) s) in
     let one = same_line AreTotals totals_text each_total a b (totals_lines servers xs ++ r) (totals_lines servers ys ++ s) (All-head AreTotals a xs x) (All-head AreTotals b ys y) e in
     ap₂ (λ (t : Totals) (ts : List Totals). t ∷ ts) one.0
     (same_totals servers xs ys r s (omega arith) (omega arith) (All-tail AreTotals a xs x) (All-tail AreTotals b ys y) one.1)

@@ -1,6 +1,6 @@
 -- The lines of marks: each is told from every other, whatever follows it.
-use Rattle.std.proofs.Common.{◌≡◌, ℕ, ◌+◌, ◌<◌, Bool, true, false, cond, ◌&&◌, List, [], ◌∷◌, ◌++◌, All, Some, None, get_or, refl, ap, ◌∙◌, append_assoc, lit<}
-use Rattle.std.specs.Prelude.{decimal, codes, ◌==◌, not, if◌then◌else◌, ⊤}
+use Rattle.std.proofs.Common.{◌≡◌, ℕ, ◌+◌, Bool, true, false, List, [], ◌∷◌, ◌++◌, All, refl, append_assoc, lit<}
+use Rattle.std.specs.Prelude.{codes, ◌==◌, if◌then◌else◌}
 use Rattle.std.specs.Str.{bytes_eq}
 use Rattle.hx_base.specs.declared.numbers.ThreadNo.{ThreadNo}
 use Rattle.hx_base.specs.declared.numbers.SessionNo.{SessionNo}
@@ -8,7 +8,7 @@ use Rattle.hx_base.specs.declared.numbers.ConnId.{ConnId}
 use Rattle.hx_base.specs.declared.numbers.PlaceNo.{PlaceNo}
 use Rattle.hx_pool.specs.declared.entries.Entry.{Entry}
 use Rattle.hx_pool.specs.declared.entries.Entry.TheVariants as entry
-use Rattle.hx_script.specs.MarkLines.{who, who_conn, place_text, place_uses, first_text, gate_text, round_line, mark_line}
+use Rattle.hx_script.specs.MarkLines.{round_line, mark_line}
 use Rattle.hx_script.specs.PrintedForm.{IsToldMark}
 use Rattle.hx_script.specs.Numbers.{IsNumber, mark_numbers}
 use Rattle.hx_script.proofs.FormLemmas.{Value, number, name, a_number, a_name, Form, is_form, text, AreOf, IsLines, number_at, name_at}

@@ -1,9 +1,8 @@
 -- No text is the printed form of two transcripts.
-use Rattle.std.proofs.Common.{◌≡◌, ℕ, ◌<◌, Bool, true, List, [], ◌∷◌, ◌++◌, All, get_or, length, refl, sym, ap, subst, ◌∙◌, append_assoc}
+use Rattle.std.proofs.Common.{◌≡◌, ℕ, Bool, true, List, [], ◌∷◌, ◌++◌, All, get_or, length, refl, sym, ap, subst, ◌∙◌, append_assoc}
 use Rattle.std.specs.Prelude.{codes, ◌==◌, not}
 use Rattle.std.specs.List.{flat_map}
 use Rattle.std.proofs.lemmas.List.{append_cancel_left}
-use Rattle.std.proofs.lemmas.List.Elements.{All-head, All-tail}
 use Rattle.std.proofs.Math.Logic.{∥∥₁_elim}
 use Rattle.std.proofs.Props.{props}
 use Rattle.hx_base.specs.declared.totals.Totals.{Totals}
@@ -20,8 +19,8 @@ use Rattle.hx_script.specs.MarkLines.{server_line, server_lines}
 use Rattle.hx_script.specs.RecordLines.{kind_line, record_line}
 use Rattle.hx_script.specs.LinkLines.{client_lines, conn_lines, totals_lines}
 use Rattle.hx_script.specs.Printed.{first_line, servers_text, records_text, links_text, sums_text, printed, Spells}
-use Rattle.hx_script.specs.PrintedForm.{IsToldRecord, HasPrintedForm}
-use Rattle.hx_script.specs.Numbers.{IsNumber, told_numbers, HasServerNumbers, HasClientNumbers, HasConnNumbers, HasNumbers}
+use Rattle.hx_script.specs.PrintedForm.{HasPrintedForm}
+use Rattle.hx_script.specs.Numbers.{HasClientNumbers, HasNumbers}
 use Rattle.hx_script.proofs.FormLemmas.{same_line}
 use Rattle.hx_script.proofs.LineLists.{AreLines, IsBehind, simple_lines, same_lines}
 use Rattle.hx_script.proofs.NamedServers.{AreNamed}
@@ -113,13 +112,13 @@ same_behind servers rs rs' cs cs' ks ks' ts ts' x y is =
     let end = sums servers ts in
     let end' = sums servers ts' in
     let a = same_lines (IsRecord servers) (record_line servers) (records_apart servers) rs rs' (links servers cs ks end) (links servers cs' ks' end')
-        x.each_record y.each_record (record { other = refl; follows = refl }) (record { other = refl; follows = refl })
-        (append_cancel_left (codes "records\n") _ _ is) in
+    x.each_record y.each_record (record { other = refl; follows = refl }) (record { other = refl; follows = refl })
+    (append_cancel_left (codes "records\n") _ _ is) in
     let b = same_lines HasClientNumbers client_lines clients_apart cs cs' (flat_map (conn_lines servers) ks ++ end) (flat_map (conn_lines servers) ks' ++ end')
-        x.each_client y.each_client (behind_clients servers ks ts x.each_conn) (behind_clients servers ks' ts' y.each_conn)
-        (append_cancel_left (codes "links\n") _ _ a.1) in
+    x.each_client y.each_client (behind_clients servers ks ts x.each_conn) (behind_clients servers ks' ts' y.each_conn)
+    (append_cancel_left (codes "links\n") _ _ a.1) in
     let c = same_lines (IsConn servers) (conn_lines servers) (conns_apart servers) ks ks' end end'
-        x.each_conn y.each_conn (record { other = refl; follows = refl }) (record { other = refl; follows = refl }) b.1 in
+    x.each_conn y.each_conn (record { other = refl; follows = refl }) (record { other = refl; follows = refl }) b.1 in
     let d = same_totals servers ts ts' (codes "end\n") (codes "end\n") x.count y.count x.each_total y.each_total (append_cancel_left (codes "totals\n") _ _ c.1) in
     (a.0, b.0, c.0, d)
 
@@ -127,9 +126,9 @@ same_behind servers rs rs' cs cs' ks ks' ts ts' x y is =
 same_parts : (t u : Transcript) → t.servers ≡ u.servers → t.records ≡ u.records → t.clients ≡ u.clients → t.conns ≡ u.conns → t.totals ≡ u.totals → t ≡ u
 same_parts t u a b c d e =
     let P = λ (sv : List ServerPart) (rs : List Told) (cs : List ClientBytes) (ks : List ConnBytes) (ts : List Totals).
-        (f : ∥ HasPrintedForm sv rs cs ks ts ∥₁) → t ≡ record { servers = sv; records = rs; clients = cs; conns = ks; totals = ts; form = f } in
+    (f : ∥ HasPrintedForm sv rs cs ks ts ∥₁) → t ≡ record { servers = sv; records = rs; clients = cs; conns = ks; totals = ts; form = f } in
     let own : P t.servers t.records t.clients t.conns t.totals = λ f. ap (λ (g : ∥ HasPrintedForm t.servers t.records t.clients t.conns t.totals ∥₁).
-        record { servers = t.servers; records = t.records; clients = t.clients; conns = t.conns; totals = t.totals; form = g }) (squash₁ t.form f) in
+    record { servers = t.servers; records = t.records; clients = t.clients; conns = t.conns; totals = t.totals; form = g }) (squash₁ t.form f) in
     subst (λ (ts : List Totals). P u.servers u.records u.clients u.conns ts) e
     (subst (λ (ks : List ConnBytes). P u.servers u.records u.clients ks t.totals) d
     (subst (λ (cs : List ClientBytes). P u.servers u.records cs t.conns t.totals) c
@@ -148,13 +147,13 @@ same_whole t u m n f g is =
     let y = parts u n g in
     let behind = λ (v : Transcript). behind_servers v.servers v.records v.clients v.conns v.totals in
     let e = append_cancel_left (codes "hx-transcript 1\n") (flat_map server_lines t.servers ++ behind t) (flat_map server_lines u.servers ++ behind u)
-        (sym (printed_so t) ∙ is ∙ printed_so u) in
+    (sym (printed_so t) ∙ is ∙ printed_so u) in
     let a = same_lines IsServer server_lines servers_apart t.servers u.servers (behind t) (behind u) x.0 y.0
-        (record { other = refl; follows = refl }) (record { other = refl; follows = refl }) e in
+    (record { other = refl; follows = refl }) (record { other = refl; follows = refl }) e in
     let here : behind t ≡ behind_servers t.servers u.records u.clients u.conns u.totals =
-        a.1 ∙ ap (λ (ps : List ServerPart). behind_servers ps u.records u.clients u.conns u.totals) (sym a.0) in
+    a.1 ∙ ap (λ (ps : List ServerPart). behind_servers ps u.records u.clients u.conns u.totals) (sym a.0) in
     let z : HasParts t.servers u.records u.clients u.conns u.totals =
-        subst (λ (ps : List ServerPart). HasParts ps u.records u.clients u.conns u.totals) (sym a.0) y.1 in
+    subst (λ (ps : List ServerPart). HasParts ps u.records u.clients u.conns u.totals) (sym a.0) y.1 in
     let more = same_behind t.servers t.records u.records t.clients u.clients t.conns u.conns t.totals u.totals x.1 z here in
     same_parts t u a.0 more.0 more.1 more.2 more.3
 

@@ -1,141 +1,25 @@
 -- The lines of records: each is told from every other, whatever follows it.
-use Rattle.std.proofs.Common.{◌≡◌, ℕ, ◌+◌, ◌<◌, Bool, true, false, cond, ◌&&◌, List, [], ◌∷◌, ◌++◌, All, Some, None, get_or, length, refl, ap, ◌∙◌, append_assoc, lit<}
-use Rattle.std.specs.Prelude.{decimal, codes, ◌==◌, not, if◌then◌else◌, ⊤}
+use Rattle.std.proofs.Common.{◌≡◌, ℕ, ◌<◌, Bool, true, false, List, [], ◌∷◌, ◌++◌, All, length, refl, append_assoc, lit<}
+use Rattle.std.specs.Prelude.{codes}
 use Rattle.std.specs.List.{list_all}
 use Rattle.std.specs.Str.{bytes_eq}
-use Rattle.hx_base.specs.declared.numbers.ThreadNo.{ThreadNo}
-use Rattle.hx_base.specs.declared.numbers.SessionNo.{SessionNo}
-use Rattle.hx_base.specs.declared.numbers.ServerNo.{ServerNo}
-use Rattle.hx_base.specs.declared.numbers.ConnId.{ConnId}
-use Rattle.hx_base.specs.declared.numbers.Span.{Span}
 use Rattle.hx_record.specs.declared.served.Carried.{Carried}
 use Rattle.hx_record.specs.declared.served.CutCause.{CutCause}
 use Rattle.hx_record.specs.declared.served.CutCause.TheVariants as cut
 use Rattle.hx_record.specs.declared.served.Kind.{Kind}
 use Rattle.hx_record.specs.declared.served.Kind.TheVariants as kind
-use Rattle.hx_record.specs.declared.served.Left.{Left}
 use Rattle.hx_record.specs.declared.served.LeftCause.{LeftCause}
 use Rattle.hx_record.specs.declared.served.LeftCause.TheVariants as cause
 use Rattle.hx_record.specs.declared.served.Served.{Served}
 use Rattle.hx_record.specs.declared.served.Told.{Told}
 use Rattle.hx_record.specs.declared.served.Told.TheVariants as told
 use Rattle.hx_script.specs.declared.transcript.ServerPart.{ServerPart}
-use Rattle.hx_script.specs.MarkLines.{who}
-use Rattle.hx_script.specs.RecordLines.{span_text, conn_text, closing_text, cut_closing_text, cut_text, cause_text, link_ranges, carried_text, begin_text, kind_line, left_line, record_line}
+use Rattle.hx_script.specs.RecordLines.{closing_text, cut_closing_text, cut_text, cause_text, carried_text, begin_text, kind_line, record_line}
 use Rattle.hx_script.specs.PrintedForm.{is_name_byte, IsToldKind, IsToldRecord}
 use Rattle.hx_script.specs.Numbers.{IsNumber, carried_numbers, kind_numbers, told_numbers}
-use Rattle.hx_script.proofs.FormLemmas.{Value, number, name, a_number, a_name, Form, is_form, text, AreOf, IsLines, number_at, name_at}
-use Rattle.hx_script.proofs.NamedServers.{AreNamed, back_at, server_at, found_at, named, found, conn_is}
-
--- ---- the forms
-
-abbrev span_form : List ℕ → Form → Form
-span_form word form = (a_number, codes "-") ∷ (a_number, word) ∷ form
-
--- a session, and the number of its request
-abbrev begin_form : Form → Form
-begin_form form = (a_number, codes ".") ∷ (a_number, codes " ") ∷ (a_number, codes " ") ∷ form
-
--- a connection, the exchange's number there, and the ranges
-abbrev carried_form : Form → Form
-carried_form form =
-    begin_form
-    ((a_name, codes "/") ∷ (a_name, codes "#") ∷ (a_number, codes " ") ∷ (a_number, codes " ask ")
-    ∷ span_form (codes " sent ") (span_form (codes " took ") (span_form (codes " gave ") (span_form (codes " ") form))))
-
-abbrev form_after : ℕ → Form
-form_after n =
-    if n == 112 then carried_form ((a_name, codes "\n") ∷ [])
-    else if n == 99 then carried_form ((a_name, codes " ") ∷ (a_name, codes "\n") ∷ [])
-    else if n == 111 then begin_form ((a_number, codes " ask ") ∷ span_form (codes " gave ") (span_form (codes "\n") []))
-    else (a_number, codes ".") ∷ (a_number, codes " ") ∷ span_form (codes " ") ((a_name, codes "\n") ∷ [])
-
-abbrev word_after : ℕ → List ℕ
-word_after n =
-    if n == 112 then codes "ass " else if n == 99 then codes "ut " else if n == 111 then codes "wn " else codes "eft "
-
--- ---- the values
-
-abbrev initial_of : Kind → ℕ
-initial_of (kind.Passed c) = 112
-initial_of (kind.Cut c why) = 99
-initial_of (kind.Own status) = 111
-
-abbrev initial : Told → ℕ
-initial (told.Served s) = initial_of s.kind
-initial (told.Left l) = 108
-
-abbrev begin_values : Served → List Value → List Value
-begin_values s values = number s.worker.0 ∷ number s.session.0 ∷ number s.number ∷ values
-
-abbrev span_values : Span → List Value → List Value
-span_values s values = number s.from ∷ number s.to ∷ values
-
-abbrev carried_values : List ServerPart → Served → Carried → List Value → List Value
-carried_values servers s c values =
-    begin_values s
-    (name (back_at servers c.server.0) ∷ name (server_at servers c.server.0) ∷ number c.id.0 ∷ number c.nth
-    ∷ span_values s.ask (span_values c.sent (span_values c.took (span_values s.gave values))))
-
-abbrev closing_word : Bool → List ℕ
-closing_word closing = if closing then codes "close" else codes "keep"
-
-abbrev cut_closing_word : Bool → List ℕ
-cut_closing_word closing = if closing then codes "close-yes" else codes "close-no"
-
-abbrev kind_values : List ServerPart → Served → Kind → List Value
-kind_values servers s (kind.Passed c) = carried_values servers s c (name (closing_word c.closing) ∷ [])
-kind_values servers s (kind.Cut c why) = carried_values servers s c (name (cut_closing_word c.closing) ∷ name (cut_text why) ∷ [])
-kind_values servers s (kind.Own status) = begin_values s (number status ∷ span_values s.ask (span_values s.gave []))
-
-abbrev values_of : List ServerPart → Told → List Value
-values_of servers (told.Served s) = kind_values servers s s.kind
-values_of servers (told.Left l) = number l.worker.0 ∷ number l.session.0 ∷ span_values l.ask (name (cause_text l.cause) ∷ [])
-
--- ---- read back
-
-abbrev span_at : ℕ → List Value → Span
-span_at k vs = record { from = number_at k vs; to = number_at (k + 1) vs }
-
-abbrev cut_of : List ℕ → CutCause
-cut_of word =
-    if bytes_eq word (codes "early") then cut.Early
-    else if bytes_eq word (codes "ended") then cut.Ended
-    else if bytes_eq word (codes "fault") then cut.Fault
-    else if bytes_eq word (codes "broken") then cut.Broken
-    else if bytes_eq word (codes "late") then cut.Late
-    else if bytes_eq word (codes "client") then cut.Client
-    else if bytes_eq word (codes "stop") then cut.Stop else cut.Silent
-
-abbrev cause_of : List ℕ → LeftCause
-cause_of word =
-    if bytes_eq word (codes "end") then cause.End
-    else if bytes_eq word (codes "closing") then cause.Closing
-    else if bytes_eq word (codes "own") then cause.Own
-    else if bytes_eq word (codes "cut") then cause.Cut
-    else if bytes_eq word (codes "idle") then cause.Idle
-    else if bytes_eq word (codes "fault") then cause.Fault else cause.Stop
-
-abbrev carried_back : List ServerPart → Bool → List Value → Carried
-carried_back servers closing vs = record {
-  server = record { 0 = found_at servers (name_at 3 vs) (name_at 4 vs) };
-  id = record { 0 = number_at 5 vs };
-  nth = number_at 6 vs;
-  sent = span_at 9 vs;
-  took = span_at 11 vs;
-  closing = closing;
-}
-
-abbrev served_back : List Value → Span → Span → Kind → Told
-served_back vs ask gave kind =
-    told.Served (record { worker = record { 0 = number_at 0 vs }; session = record { 0 = number_at 1 vs }; number = number_at 2 vs; ask = ask; gave = gave; kind = kind })
-
-abbrev record_back : List ServerPart → ℕ → List Value → Told
-record_back servers n vs =
-    if n == 112 then served_back vs (span_at 7 vs) (span_at 13 vs) (kind.Passed (carried_back servers (bytes_eq (name_at 15 vs) (codes "close")) vs))
-    else if n == 99 then served_back vs (span_at 7 vs) (span_at 13 vs) (kind.Cut (carried_back servers (bytes_eq (name_at 15 vs) (codes "close-yes")) vs) (cut_of (name_at 16 vs)))
-    else if n == 111 then served_back vs (span_at 4 vs) (span_at 6 vs) (kind.Own (number_at 3 vs))
-    else told.Left (record { worker = record { 0 = number_at 0 vs }; session = record { 0 = number_at 1 vs }; ask = span_at 2 vs; cause = cause_of (name_at 4 vs) })
+use Rattle.hx_script.proofs.FormLemmas.{Value, name, a_name, Form, is_form, text, AreOf, IsLines}
+use Rattle.hx_script.proofs.NamedServers.{AreNamed, named, found, conn_is}
+use Rattle.hx_script.proofs.RecordForms.{carried_form, form_after, word_after, initial_of, initial, carried_values, closing_word, cut_closing_word, kind_values, values_of, cut_of, cause_of, record_back}
 
 -- ---- each line is so
 
@@ -219,9 +103,34 @@ carried_fits : (servers : List ServerPart) (s : Served) (c : Carried) (form : Fo
     → AreOf form values → AreOf (carried_form form) (carried_values servers s c values)
 carried_fits servers s c form values are lt n more =
     let names = named servers c.server.0 lt are.told in
-    let k = λ (i : ℕ) (there : i < 13). n i 0 there in
-    (k 0 (lit< tt), (k 1 (lit< tt), (k 2 (lit< tt), (names.0, (names.1, (k 7 (lit< tt), (k 8 (lit< tt), (k 3 (lit< tt), (k 4 (lit< tt),
-    (k 9 (lit< tt), (k 10 (lit< tt), (k 11 (lit< tt), (k 12 (lit< tt), (k 5 (lit< tt), (k 6 (lit< tt), more)))))))))))))))
+    let k = λ (i : ℕ) (there : i < 13). n i 0 there in (
+      k 0 (lit< tt),
+      (
+        k 1 (lit< tt),
+        (
+          k 2 (lit< tt),
+          (
+            names.0,
+            (
+              names.1,
+              (
+                k 7 (lit< tt),
+                (
+                  k 8 (lit< tt),
+                  (
+                    k 3 (lit< tt),
+                    (
+                      k 4 (lit< tt),
+                      (k 9 (lit< tt), (k 10 (lit< tt), (k 11 (lit< tt), (k 12 (lit< tt), (k 5 (lit< tt), (k 6 (lit< tt), more)))))),
+                    ),
+                  ),
+                ),
+              ),
+            ),
+          ),
+        ),
+      ),
+    )
 
 kind_fits : (servers : List ServerPart) (s : Served) (k : Kind) → HasKind servers s k → AreOf (form_after (initial_of k)) (kind_values servers s k)
 kind_fits servers s (kind.Passed c) ok =

@@ -1,6 +1,6 @@
 -- The lines of a server and of its marks are told from those of every other.
-use Rattle.std.proofs.Common.{◌≡◌, ℕ, ◌+◌, ◌<◌, Bool, true, false, cond, ◌&&◌, List, [], ◌∷◌, ◌++◌, All, Option, Some, None, get_or, refl, sym, ap, ap₂, ◌∙◌, append_assoc, lit<}
-use Rattle.std.specs.Prelude.{decimal, codes, ◌==◌, not, if◌then◌else◌, ⊤}
+use Rattle.std.proofs.Common.{◌≡◌, ℕ, Bool, true, List, [], ◌∷◌, ◌++◌, All, Option, None, get_or, refl, sym, ap, ap₂, ◌∙◌, append_assoc, lit<}
+use Rattle.std.specs.Prelude.{codes, ◌==◌, not, if◌then◌else◌}
 use Rattle.std.specs.List.{list_all, flat_map}
 use Rattle.std.specs.Str.{bytes_eq}
 use Rattle.hx_base.specs.declared.rules.Mode.{Mode}
@@ -8,10 +8,10 @@ use Rattle.hx_base.specs.declared.rules.Mode.TheVariants as mode
 use Rattle.hx_pool.specs.declared.entries.Entry.{Entry}
 use Rattle.hx_pool.specs.declared.entries.Entry.TheVariants as entry
 use Rattle.hx_script.specs.declared.transcript.ServerPart.{ServerPart}
-use Rattle.hx_script.specs.MarkLines.{mode_text, max_text, full_name, mark_line, round_line, server_line, server_lines}
-use Rattle.hx_script.specs.PrintedForm.{is_name_byte, IsName, IsToldServer, IsToldMark}
-use Rattle.hx_script.specs.Numbers.{IsNumber, IsLimit, rule_numbers, HasServerNumbers, mark_numbers}
-use Rattle.hx_script.proofs.FormLemmas.{Value, number, limit, name, a_number, a_limit, a_name, Form, is_form, text, AreOf, IsLines, same_line, number_at, name_at}
+use Rattle.hx_script.specs.MarkLines.{mode_text, mark_line, round_line, server_line, server_lines}
+use Rattle.hx_script.specs.PrintedForm.{is_name_byte, IsName, IsToldServer}
+use Rattle.hx_script.specs.Numbers.{IsNumber, IsLimit, rule_numbers, HasServerNumbers}
+use Rattle.hx_script.proofs.FormLemmas.{Value, number, limit, name, a_number, a_limit, a_name, Form, text, AreOf, IsLines, same_line, number_at, name_at}
 use Rattle.hx_script.proofs.LineLists.{AreLines, IsBehind, simple_lines, same_lines}
 use Rattle.hx_script.proofs.MarkTextLemmas.{IsMark, mark_lines}
 
@@ -25,7 +25,7 @@ abbrev pub IsServer : ServerPart → Type 0
 IsServer p = IsToldServer p × HasServerNumbers p
 
 abbrev IsBare : ServerPart → Type 0
-IsBare p = IsName p.back × IsName p.server × IsLimit p.rules.max × All IsNumber (rule_numbers p) × (p.marks ≡ [])
+IsBare p = IsName p.back × IsName p.server × IsLimit p.rules.max × All IsNumber (rule_numbers p.rules) × (p.marks ≡ [])
 
 abbrev limit_of : Value → Option ℕ
 limit_of (limit max) = max
@@ -131,7 +131,7 @@ pub server_tells : (p q : ServerPart) (r s : List ℕ) → IsServer p → IsServ
 unfolding server_lines server_line
 server_tells p q r s x y ends stop is =
     let e : server_line (bare p) ++ (flat_map mark_line p.marks ++ r) ≡ server_line (bare q) ++ (flat_map mark_line q.marks ++ s) =
-        sym (append_assoc (server_line p) (flat_map mark_line p.marks) r) ∙ is ∙ append_assoc (server_line q) (flat_map mark_line q.marks) s in
+    sym (append_assoc (server_line p) (flat_map mark_line p.marks) r) ∙ is ∙ append_assoc (server_line q) (flat_map mark_line q.marks) s in
     let line = same_line IsBare server_line bare_lines (bare p) (bare q) (flat_map mark_line p.marks ++ r) (flat_map mark_line q.marks ++ s) (is_bare p x) (is_bare q y) e in
     let marks = same_lines IsMark mark_line marks_apart p.marks q.marks r s (are_marks p x) (are_marks q y) (behind r ends) (behind s stop) line.1 in
     (ap₂ (λ (part : ServerPart) (ms : List Entry). record part { marks = ms }) line.0 marks.0, marks.1)

@@ -1,6 +1,7 @@
 -- The numbers and bytes of a transcript. A value of the program has them by its types.
 use Rattle.std.specs.Prelude.{ℕ, ◌^◌, ◌<◌, List, [], ◌∷◌, Option, Some, None, All, ⊤}
 use Rattle.hx_base.specs.declared.numbers.Span.{Span}
+use Rattle.hx_base.specs.declared.rules.PoolRules.{PoolRules}
 use Rattle.hx_base.specs.declared.totals.Totals.{Totals}
 use Rattle.hx_pool.specs.declared.entries.Entry.{Entry}
 use Rattle.hx_pool.specs.declared.entries.Entry.TheVariants as entry
@@ -32,8 +33,8 @@ mark_numbers (entry.Round t k old) = t.0 ∷ k ∷ old ∷ []
 mark_numbers _ = []
 
 -- the numbers of a server's rules
-abbrev pub rule_numbers : ServerPart → List ℕ
-rule_numbers p = p.rules.low ∷ p.rules.delay.0 ∷ []
+abbrev pub rule_numbers : PoolRules → List ℕ
+rule_numbers rules = rules.low ∷ rules.delay.0 ∷ []
 
 -- no limit is no number
 abbrev pub IsLimit : Option ℕ → Type 0
@@ -42,7 +43,7 @@ IsLimit (Some n) = IsNumber n
 
 pub record HasServerNumbers (p : ServerPart) : Type 0 where
   pub max : IsLimit p.rules.max
-  pub rules : All IsNumber (rule_numbers p)
+  pub rules : All IsNumber (rule_numbers p.rules)
   pub marks : All (λ e. All IsNumber (mark_numbers e)) p.marks
 
 abbrev pub span_numbers : Span → List ℕ

@@ -1,4 +1,4 @@
-//! What the printed form says of a transcript. Each function is there for its clauses.
+//! That a text tells its transcript. The function is there for its clause.
 ghost use Rattle.std.specs.Prelude.{◌≡◌, ℕ, List};
 ghost use Rattle.hx_script.specs.declared.transcript.Transcript.{Transcript};
 ghost use Rattle.hx_script.specs.Numbers.{HasNumbers};
@@ -8,5 +8,4 @@ ghost use Rattle.hx_script.specs.Printed.{Spells};
 pub fn one_transcript()
     ensures alone { (text : List ℕ) (t u : Transcript) → HasNumbers t → HasNumbers u
         → Spells text t → Spells text u → t ≡ u }
-{
-}
+{}

@@ -4,6 +4,7 @@
 mod laws;
 mod link_lines;
 mod mark_lines;
+mod numbers;
 mod pieces;
 mod print;
 mod quoted;
@@ -16,6 +17,7 @@ pub use hx_record::{
     Carried, ClientBytes, ConnBytes, CutCause, Kind, Left, LeftCause, Served, Told,
 };
 pub use laws::one_transcript;
+pub use numbers::numbers_fit;
 pub use print::print_transcript;
 pub use quoted::{one_byte_text, read_quoted};
 pub use transcript::{ServerPart, Transcript};
