@@ -1,0 +1,5 @@
+pub mod ByteTextLemmas
+pub mod Endings
+pub mod Naming
+pub mod QuotedLemmas
+pub mod ReadLines
