@@ -1,12 +1,13 @@
 -- What was read so far: links, orders and moments.
-use Rattle.std.specs.Prelude.{ℕ, Bool, false, List, [], ◌∷◌, ◌++◌, map, Option, Some, None, Result, Ok, Err, if◌then◌else◌}
+use Rattle.std.specs.Prelude.{ℕ, Bool, false, List, [], ◌∷◌, ◌++◌, map, Option, Some, None, Result, Ok, Err, if◌then◌else◌, nat_lt, is_some}
 use Rattle.std.specs.BTreeSet.{insert_key}
 use Rattle.std.specs.Ordering.{nat_cmp}
 use Rattle.hx_base.specs.declared.numbers.Millis.{Millis}
 use Rattle.hx_base.specs.declared.numbers.ServerNo.{ServerNo}
 use Rattle.hx_link.specs.declared.plan.Plan.{Plan}
 use Rattle.hx_script_parts.specs.declared.fault.Rule.{Rule}
-use Rattle.hx_script_parts.specs.declared.fault.Rule.TheVariants.{WrongPlace}
+use Rattle.hx_script_parts.specs.declared.fault.Rule.TheVariants.{WrongPlace, MomentFalls}
+use Rattle.hx_script_parts.specs.Faults.{◌>>=◌, unless}
 use Rattle.hx_script_parts.specs.declared.reading.Owner.{Owner}
 use Rattle.hx_script_parts.specs.declared.reading.Owner.TheVariants as owner
 use Rattle.hx_script_parts.specs.declared.reading.OpenLink.{OpenLink}
@@ -77,6 +78,14 @@ is_refused (owner.Server server refuse) = refuse
 abbrev pub link_of : Option OpenLink → Result OpenLink Rule
 link_of None = Err WrongPlace
 link_of (Some l) = if is_refused l.owner then Err WrongPlace else Ok l
+
+-- the link that goes on at this moment: it has no end yet, and the moment doesn't fall
+abbrev pub link_at : Millis → Option OpenLink → Result OpenLink Rule
+link_at m current = do
+  l ← link_of current
+  goes_on ← unless (is_some l.end) WrongPlace
+  rises ← unless (nat_lt m.0 l.latest.0) MomentFalls
+  Ok l
 
 -- before the first line
 abbrev pub nothing_read : Reading

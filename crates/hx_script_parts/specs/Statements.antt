@@ -1,13 +1,13 @@
 -- What each line behind the configuration does to what was read before it, or the first rule that it breaks: its
 -- words from left to right, then its place, then its moment, then the limits.
-use Rattle.std.specs.Prelude.{ℕ, Bool, true, false, not, List, [], ◌∷◌, ◌++◌, length, Some, None, Result, Ok, nat_le, nat_lt, bytes_eq, codes, is_some}
+use Rattle.std.specs.Prelude.{ℕ, Bool, true, false, not, List, [], ◌∷◌, ◌++◌, length, Some, None, Result, Ok, nat_le, bytes_eq, codes, is_some}
 use Rattle.hx_base.specs.declared.numbers.ServerNo.{ServerNo}
 use Rattle.hx_base.specs.declared.order.Order.{Order}
 use Rattle.hx_base.specs.declared.order.Order.TheVariants as order
 use Rattle.hx_config.specs.Keywords.{found}
 use Rattle.hx_config.specs.Meaning as config
 use Rattle.hx_script_parts.specs.declared.fault.Rule.{Rule}
-use Rattle.hx_script_parts.specs.declared.fault.Rule.TheVariants.{BadLine, WrongPlace, MomentFalls, TooMany}
+use Rattle.hx_script_parts.specs.declared.fault.Rule.TheVariants.{BadLine, WrongPlace, TooMany}
 use Rattle.hx_script_parts.specs.declared.keywords.FirstWord.{FirstWord}
 use Rattle.hx_script_parts.specs.declared.keywords.FirstWord.TheVariants as first
 use Rattle.hx_script_parts.specs.declared.keywords.OrderWord.{OrderWord}
@@ -19,7 +19,7 @@ use Rattle.hx_script_parts.specs.Keywords.{first_words}
 use Rattle.hx_script_parts.specs.Lexical.{Rest, word_at, text_at, at_end}
 use Rattle.hx_script_parts.specs.Names.{found_or, front_at, server_at, worker_at}
 use Rattle.hx_script_parts.specs.Numbers.{greatest, number_at, moment_at}
-use Rattle.hx_script_parts.specs.Reading.{empty_link, closed, with_link, at_moment, link_of}
+use Rattle.hx_script_parts.specs.Reading.{empty_link, closed, with_link, at_moment, link_of, link_at}
 
 -- the most clients, and the most server lines
 abbrev pub most_clients : ℕ
@@ -62,9 +62,7 @@ piece_line r ws = do
   sent ← number_at 0 greatest m.1
   bytes ← text_at sent.1
   e ← at_end bytes.1
-  l ← link_of r.current
-  goes_on ← unless (is_some l.end) WrongPlace
-  rises ← unless (nat_lt m.0.0 l.latest.0) MomentFalls
+  l ← link_at m.0 r.current
   Ok (at_moment m.0 (with_link (record l {
     pieces = l.pieces ++ (record { at = m.0; after = sent.0; bytes = bytes.0 }) ∷ [];
     latest = m.0;
@@ -76,9 +74,7 @@ end_line r ws = do
   m ← moment_at ws
   sent ← number_at 0 greatest m.1
   e ← at_end sent.1
-  l ← link_of r.current
-  goes_on ← unless (is_some l.end) WrongPlace
-  rises ← unless (nat_lt m.0.0 l.latest.0) MomentFalls
+  l ← link_at m.0 r.current
   Ok (at_moment m.0 (with_link (record l { end = Some (m.0, sent.0) }) r))
 
 -- `room <n>`

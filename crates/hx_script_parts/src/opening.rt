@@ -8,6 +8,7 @@ use crate::growing::Growing;
 use crate::moments::Moments;
 use crate::reading::{OpenLink, Owner, Reading};
 use crate::script::ClientLine;
+use crate::words::unless_broken;
 use hx_base::{Millis, ServerNo};
 use hx_link::Plan;
 use std::alloc::Global;
@@ -117,6 +118,17 @@ impl Reading {
         if is_refused(link.owner) {
             return Err(Refusal::Fault(Rule::WrongPlace));
         }
+        Ok(link)
+    }
+
+    /// The same, where it goes on at the moment.
+    pub fn take_link_at(&mut self, at: Millis) -> Result<OpenLink, Refusal>
+        ensures link { Gives (λ l. l) result (reading.link_at at self.old.current) }
+        ensures taken { self.new ≡ record self.old { current = None } }
+    {
+        let link = self.take_link()?;
+        unless_broken(link.end.is_some(), Rule::WrongPlace)?;
+        unless_broken(at.0 < link.latest.0, Rule::MomentFalls)?;
         Ok(link)
     }
 }

@@ -142,7 +142,7 @@ fn read_whole(alloc: Global, text: &[u8]) -> Result<Script, Stop>
     let (config, rest) = behind_config(alloc, count, rest)?;
     let reading = read_lines(alloc, &config, count as u32 + 3, rest)?;
     match finish(alloc, config, reading) {
-        Ok(script) => Ok(script),
+        Ok(whole) => Ok(whole),
         Err(_) => Err(Stop::Memory),
     }
 }

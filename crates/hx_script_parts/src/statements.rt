@@ -89,9 +89,7 @@ impl Reading {
         let after = words.number(0, GREATEST)?;
         let bytes = words.text(self.allocator())?;
         words.end()?;
-        let mut link = self.take_link()?;
-        unless_broken(link.end.is_some(), Rule::WrongPlace)?;
-        unless_broken(at.0 < link.latest.0, Rule::MomentFalls)?;
+        let mut link = self.take_link_at(at)?;
         link.pieces.push(Piece { at, after, bytes })?;
         link.latest = at;
         self.current = Some(link);
@@ -104,9 +102,7 @@ impl Reading {
         let at = words.moment()?;
         let after = words.number(0, GREATEST)?;
         words.end()?;
-        let mut link = self.take_link()?;
-        unless_broken(link.end.is_some(), Rule::WrongPlace)?;
-        unless_broken(at.0 < link.latest.0, Rule::MomentFalls)?;
+        let mut link = self.take_link_at(at)?;
         link.end = Some((at, after));
         self.current = Some(link);
         self.moments.add(at)
