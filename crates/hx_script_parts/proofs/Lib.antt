@@ -3,3 +3,4 @@ pub mod Endings
 pub mod Naming
 pub mod QuotedLemmas
 pub mod ReadLines
+pub mod Soundness

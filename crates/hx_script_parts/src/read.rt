@@ -6,6 +6,7 @@ ghost use Rattle.hx_script_parts.specs.Faults.{Gives, Leads, IsFaultOf, stop_at,
 ghost use Rattle.hx_script_parts.specs.Lexical.{lines_of, first_line, in_front, behind};
 ghost use Rattle.hx_script_parts.specs.Meaning as meant;
 ghost use Rattle.hx_script_parts.specs.Reading.{nothing_read, closed};
+ghost use Rattle.hx_script_parts.specs.Sound.{IsSound};
 ghost use Rattle.hx_script_parts.specs.Views.{meaning};
 ghost use Rattle.hx_script_parts.specs.declared.fault.Flaw.TheVariants as flaw;
 ghost use Rattle.hx_script_parts.specs.declared.fault.Stop.TheVariants as stop;
@@ -115,6 +116,7 @@ fn read_lines(alloc: Global, config: &Config, first: u32, text: &[u8]) -> Result
 }
 
 fn finish(alloc: Global, config: Config, reading: Reading) -> Result<Script, Refusal>
+    requires { IsSound (config_view.meaning config) reading }
     ensures { Gives meaning result
         (Ok (meant.meaning_with (config_view.meaning config) (closed reading))) }
 {

@@ -1,4 +1,6 @@
 //! What a script says.
+ghost use Rattle.hx_config.specs.Views as config_view;
+ghost use Rattle.hx_script_parts.specs.Limits.{IsWithin};
 
 use hx_base::{Items, Millis, Order, ThreadNo};
 use hx_config::Config;
@@ -16,7 +18,8 @@ pub struct ClientLine {
     pub plan: Plan,
 }
 
-/// A script, each list in the order of its lines.
+/// A script, each list in the order of its lines. It has at most 1,000 clients and 4,096 plans. The frontends and
+/// workers of its clients are those of the configuration, and `room` and `fail` are at least 1.
 #[derive(Drop)]
 pub struct Script {
     pub config: Config,
@@ -27,4 +30,5 @@ pub struct Script {
     pub orders: Items<(Millis, Order)>,
     /// The moments of all lines and 0, each once and rising.
     pub moments: Items<Millis>,
+    pub ghost within: { IsWithin (config_view.meaning config) clients plans moments },
 }
