@@ -1,0 +1,6 @@
+pub mod ByteTextLemmas
+pub mod Endings
+pub mod Naming
+pub mod QuotedLemmas
+pub mod ReadLines
+pub mod Soundness

@@ -1,0 +1,378 @@
+-- Each line keeps the limits.
+use Rattle.std.proofs.Common.{◌≡◌, ℕ, ◌+◌, ◌<◌, ◌≤◌, Bool, true, false, List, [], ◌∷◌, ◌++◌, length, Option, Some, None, Result, Ok, Err, refl, sym, ap, subst, ◌∙◌, arith, inl, inr}
+use Rattle.std.specs.Prelude.{IfOk, ⊤, ◌&&◌, ◌==◌, nat_le, nat_lt, is_some, cond, bytes_eq, slice_get, codes, not}
+use Rattle.std.specs.List.{list_all}
+use Rattle.std.specs.Ordering.{nat_cmp, match_ordering}
+use Rattle.std.specs.declared.cmp.Ordering.{Ordering}
+use Rattle.std.specs.declared.cmp.Ordering.TheVariants.{Less, Equal, Greater}
+use Rattle.std.specs.BTreeSet.{insert_key}
+use Rattle.std.proofs.lemmas.List.{length-append}
+use Rattle.std.proofs.lemmas.Bool.{cases_Bool, and_parts, and_from, lt-ltb, ltb-true, leb-false, eqb-true, eqb-false, ltb-false, cond_both, cond-true, cond-false}
+use Rattle.std.proofs.lemmas.Result.{IfOk-at_ok}
+use Rattle.hx_base.specs.declared.numbers.Millis.{Millis}
+use Rattle.hx_base.specs.declared.numbers.ThreadNo.{ThreadNo}
+use Rattle.hx_config.specs.Meaning as config
+use Rattle.hx_config.specs.Keywords.{found}
+use Rattle.hx_config.specs.declared.parts.Front.{Front}
+use Rattle.hx_link.specs.declared.plan.Plan.{Plan}
+use Rattle.hx_script_parts.specs.declared.fault.Rule.{Rule}
+use Rattle.hx_script_parts.specs.declared.fault.Rule.TheVariants.{BadNumber, BadLine, BadWorker, WrongPlace, MomentFalls, TooMany, NoSuchFrontend}
+use Rattle.hx_script_parts.specs.declared.fault.Flaw.{Flaw}
+use Rattle.hx_script_parts.specs.declared.keywords.FirstWord.{FirstWord}
+use Rattle.hx_script_parts.specs.declared.keywords.FirstWord.TheVariants as first
+use Rattle.hx_script_parts.specs.declared.keywords.OrderWord.{OrderWord}
+use Rattle.hx_script_parts.specs.declared.keywords.OrderWord.TheVariants as ordered
+use Rattle.hx_script_parts.specs.declared.reading.Owner.{Owner}
+use Rattle.hx_script_parts.specs.declared.reading.Owner.TheVariants as owner
+use Rattle.hx_script_parts.specs.declared.reading.OpenLink.{OpenLink}
+use Rattle.hx_script_parts.specs.declared.reading.Reading.{Reading}
+use Rattle.hx_script_parts.specs.declared.script.ClientLine.{ClientLine}
+use Rattle.hx_script_parts.specs.Faults.{◌>>=◌, unless, located}
+use Rattle.hx_script_parts.specs.Keywords.{first_words}
+use Rattle.hx_script_parts.specs.Lexical.{Rest, word_at, text_at, at_end}
+use Rattle.hx_script_parts.specs.Limits.{is_positive, has_limits, is_client_of, comes_before, are_rising, IsWithin}
+use Rattle.hx_script_parts.specs.Meaning.{lines_read}
+use Rattle.hx_script_parts.specs.Names.{found_or, front_from, front_at, server_at, worker_below, worker_at}
+use Rattle.hx_script_parts.specs.Numbers.{greatest, is_decimal, number_in, number_at, moment_at}
+use Rattle.hx_script_parts.specs.Reading.{with_moment, as_moments, empty_link, plan_of, with_plan, ended, closed, with_link, at_moment, is_refused, link_of, link_at, nothing_read}
+use Rattle.hx_script_parts.specs.Sound.{clients_in, plans_in, is_owner_of, clients_open, plans_open, is_link_of, IsSound}
+use Rattle.hx_script_parts.specs.Statements as means
+use Rattle.hx_config.specs.Numbers.{value}
+
+-- what is read is sound, where something is read
+abbrev pub Keeps : config.Meaning → Result Reading Rule → Type 0
+Keeps c x = IfOk x (IsSound c)
+
+-- a reading after another one
+then_keeps : {A : Type 0} (c : config.Meaning) (q : Result A Rule) (f : A → Result Reading Rule) → ((a : A) → q ≡ Ok a → Keeps c (f a)) → Keeps c (q >>= f)
+then_keeps c (Ok a) f h = h a refl
+then_keeps c (Err e) f h = tt
+
+bind_ok : {A B E : Type 0} (r : Result A E) (f : A → Result B E) (y : B) → (r >>= f) ≡ Ok y → (x : A) × (r ≡ Ok x) × (f x ≡ Ok y)
+bind_ok (Ok x) f y e = (x, refl, e)
+bind_ok (Err d) f y e = absurd (cc)
+
+ok_inj : {A E : Type 0} (x y : A) → ◌≡◌ {A = Result A E} (Ok x) (Ok y) → x ≡ y
+ok_inj x y is = cc
+
+some_inj : {A : Type 0} (x y : A) → Some x ≡ Some y → x ≡ y
+some_inj x y is = cc
+
+passed_ok : {A E : Type 0} (b : Bool) (x y : A) (e : E) → cond b (Err e) (Ok x) ≡ Ok y → x ≡ y
+passed_ok true x y e is = absurd (cc)
+passed_ok false x y e is = cc
+
+test_ok : {A E : Type 0} (b : Bool) (x y : A) (e : E) → cond b (Ok x) (Err e) ≡ Ok y → (b ≡ true) × (x ≡ y)
+test_ok true x y e is = (refl, cc)
+test_ok false x y e is = absurd (cc)
+
+held : (b : Bool) (rule : Rule) (t : ⊤) → unless b rule ≡ Ok t → b ≡ false
+held true rule t is = absurd (cc)
+held false rule t is = refl
+
+-- what words that were read show
+
+number_low : (low high : ℕ) (ws : Rest) (x : ℕ × Rest) → number_at low high ws ≡ Ok x → nat_le low x.0 ≡ true
+number_low low high ws x is =
+    let word = bind_ok (word_at ws) (λ w. number_in low high w.0 >>= λ n. Ok (n, w.1)) x is in
+    let number = bind_ok (number_in low high word.0.0) (λ n. Ok (n, word.0.1)) x word.2 in
+    let v = value word.0.0 in
+    let test = test_ok (is_decimal word.0.0 && (nat_le low v && nat_le v high)) v number.0 BadNumber number.1 in
+    let parts = and_parts (is_decimal word.0.0) (nat_le low v && nat_le v high) test.0 in
+    let low_is = (and_parts (nat_le low v) (nat_le v high) parts.1).0 in
+    let same : number.0 ≡ x.0 = ap (λ (y : ℕ × Rest). y.0) (ok_inj (number.0, word.0.1) x number.2) in
+    ap (nat_le low) (sym (test.1 ∙ same)) ∙ low_is
+
+found_is : {A : Type 0} (rule : Rule) (o : Option A) (x : A) → found_or rule o ≡ Ok x → o ≡ Some x
+found_is rule None x is = absurd (cc)
+found_is rule (Some y) x is = ap Some (ok_inj y x is)
+
+front_within : (i : ℕ) (name : List ℕ) (fs : List Front) (k : ℕ) → front_from i name fs ≡ Some k → k < i + length fs
+unfolding front_from
+front_within i name [] k is = absurd (cc)
+front_within i name (f ∷ fs) k is = elim (cases_Bool (bytes_eq f.name name)) [
+  | inl here ↦ (let same : i ≡ k = some_inj i k (sym (cond-true _ _ _ here) ∙ is) in omega arith)
+  | inr later ↦ (let ih = front_within (i + 1) name fs k (sym (cond-false _ _ _ later) ∙ is) in omega (arith, ih))
+]
+
+front_in : (c : config.Meaning) (ws : Rest) (x : ℕ × Rest) → front_at c ws ≡ Ok x → nat_lt x.0 (length c.fronts) ≡ true
+front_in c ws x is =
+    let word = bind_ok (word_at ws) (λ w. found_or NoSuchFrontend (front_from 0 w.0 c.fronts) >>= λ f. Ok (f, w.1)) x is in
+    let front = bind_ok (found_or NoSuchFrontend (front_from 0 word.0.0 c.fronts)) (λ f. Ok (f, word.0.1)) x word.2 in
+    let within = front_within 0 word.0.0 c.fronts front.0 (found_is NoSuchFrontend (front_from 0 word.0.0 c.fronts) front.0 front.1) in
+    let same : front.0 ≡ x.0 = ap (λ (y : ℕ × Rest). y.0) (ok_inj (front.0, word.0.1) x front.2) in
+    ap (λ (n : ℕ). nat_lt n (length c.fronts)) (sym same) ∙ lt-ltb front.0 (length c.fronts) (omega (arith, within))
+
+worker_in : (c : config.Meaning) (ws : Rest) (x : ThreadNo × Rest) → worker_at c ws ≡ Ok x → nat_lt x.0.0 c.threads ≡ true
+worker_in c ws x is =
+    let number = bind_ok (number_at 0 greatest ws) (λ n. worker_below c.threads n.0 >>= λ t. Ok (t, n.1)) x is in
+    let worker = bind_ok (worker_below c.threads number.0.0) (λ t. Ok (t, number.0.1)) x number.2 in
+    let test = test_ok (nat_lt number.0.0 c.threads) (record { 0 = number.0.0 }) worker.0 BadWorker worker.1 in
+    let same : worker.0 ≡ x.0 = ap (λ (y : ThreadNo × Rest). y.0) (ok_inj (worker.0, number.0.1) x worker.2) in
+    ap (λ (t : ThreadNo). nat_lt t.0 c.threads) (sym (test.1 ∙ same)) ∙ test.0
+
+link_there : (o : Option OpenLink) (l : OpenLink) → link_of o ≡ Ok l → o ≡ Some l
+link_there None l is = absurd (cc)
+link_there (Some k) l is = ap Some (passed_ok (is_refused k.owner) k l WrongPlace is)
+
+link_at_there : (m : Millis) (o : Option OpenLink) (l : OpenLink) → link_at m o ≡ Ok l → o ≡ Some l
+link_at_there m o l is =
+    let there = bind_ok (link_of o) (λ k. unless (is_some k.end) WrongPlace >>= λ t. unless (nat_lt m.0 k.latest.0) MomentFalls >>= λ u. Ok k) l is in
+    let k = there.0 in
+    let goes_on = bind_ok (unless (is_some k.end) WrongPlace) (λ t. unless (nat_lt m.0 k.latest.0) MomentFalls >>= λ u. Ok k) l there.2 in
+    let rises = bind_ok (unless (nat_lt m.0 k.latest.0) MomentFalls) (λ u. Ok k) l goes_on.2 in
+    link_there o k there.1 ∙ ap Some (ok_inj k l rises.2)
+
+-- moments
+
+in_order : (k y : ℕ) (P : Ordering → Type 0) → (k < y → P Less) → (k ≡ y → P Equal) → (y < k → P Greater) → P (nat_cmp k y)
+in_order k y P less same more =
+    cond_both (nat_lt k y) Less (cond (k == y) Equal Greater) P (λ is. less (ltb-true k y is))
+    (λ is. cond_both (k == y) Equal Greater P (λ eq. same (eqb-true k y eq))
+    (λ ne. let not_less = ltb-false k y is in let other = eqb-false k y ne in more (omega (arith, not_less, other))))
+
+before_insert : (x k : ℕ) (ms : List ℕ) → x < k → comes_before (record { 0 = x }) (as_moments ms) ≡ true
+    → comes_before (record { 0 = x }) (as_moments (insert_key nat_cmp ms k)) ≡ true
+before_insert x k [] lt before = lt-ltb x k lt
+before_insert x k (y ∷ ys) lt before =
+    in_order k y (λ o. comes_before (record { 0 = x }) (as_moments (match_ordering o (k ∷ y ∷ ys) (y ∷ ys) (y ∷ insert_key nat_cmp ys k))) ≡ true)
+    (λ _. lt-ltb x k lt) (λ _. before) (λ _. before)
+
+rising_insert : (ms : List ℕ) (k : ℕ) → are_rising (as_moments ms) ≡ true → are_rising (as_moments (insert_key nat_cmp ms k)) ≡ true
+rising_insert [] k rising = refl
+rising_insert (y ∷ ys) k rising =
+    let parts = and_parts (comes_before (record { 0 = y }) (as_moments ys)) (are_rising (as_moments ys)) rising in
+    in_order k y (λ o. are_rising (as_moments (match_ordering o (k ∷ y ∷ ys) (y ∷ ys) (y ∷ insert_key nat_cmp ys k))) ≡ true)
+    (λ lt. and_from _ _ (lt-ltb k y lt) rising) (λ _. rising)
+    (λ gt. and_from _ _ (before_insert y k ys gt parts.0) (rising_insert ys k parts.1))
+
+zero_first : (ms : List ℕ) → slice_get (as_moments (insert_key nat_cmp ms 0)) 0 ≡ Some (record { 0 = 0 })
+zero_first [] = refl
+zero_first (y ∷ ys) =
+    in_order 0 y (λ o. slice_get (as_moments (match_ordering o (0 ∷ y ∷ ys) (y ∷ ys) (y ∷ insert_key nat_cmp ys 0))) 0 ≡ Some (record { 0 = 0 }))
+    (λ _. refl) (λ same. ap (λ (n : ℕ). Some (record { 0 = n })) (sym same)) (λ gt. absurd (omega (arith, gt)))
+
+kept_moment : (c : config.Meaning) (m : Millis) (r : Reading) → IsSound c r → IsSound c (at_moment m r)
+kept_moment c m r h = record {
+  clients = h.clients;
+  plans = h.plans;
+  clients_hold = h.clients_hold;
+  plans_hold = h.plans_hold;
+  current = h.current;
+  rising = rising_insert r.moments m.0 h.rising;
+}
+
+-- a link that ends
+
+all_pushed : {A : Type 0} (p : A → Bool) (xs : List A) (x : A) → list_all p xs ≡ true → p x ≡ true → list_all p (xs ++ x ∷ []) ≡ true
+all_pushed p [] x each here = and_from _ _ here refl
+all_pushed p (y ∷ ys) x each here = let parts = and_parts (p y) (list_all p ys) each in and_from _ _ parts.0 (all_pushed p ys x parts.1 here)
+
+plan_added : (c : config.Meaning) (w : Owner) (l : OpenLink) (r : Reading) → length r.clients + clients_in w ≤ 1000 → length r.plans + plans_in w ≤ 4096
+    → list_all (is_client_of c) r.clients ≡ true → list_all has_limits r.plans ≡ true → is_owner_of c w ≡ true
+    → (is_positive l.room && is_positive l.fail) ≡ true → are_rising (as_moments r.moments) ≡ true → IsSound c (with_plan w l (record r { current = None }))
+plan_added c (owner.Client front worker moment) l r clients plans clients_hold plans_hold own limits rising =
+    let x : ClientLine = record { front = front; worker = worker; moment = moment; plan = plan_of None false l } in
+    record {
+      clients = omega (arith, length-append r.clients (x ∷ []));
+      plans = plans;
+      clients_hold = all_pushed (is_client_of c) r.clients x clients_hold (and_from _ _ own limits);
+      plans_hold = plans_hold;
+      current = refl;
+      rising = rising;
+    }
+plan_added c (owner.Server server refuse) l r clients plans clients_hold plans_hold own limits rising =
+    let x : Plan = plan_of (Some server) refuse l in
+    record {
+      clients = clients;
+      plans = omega (arith, length-append r.plans (x ∷ []));
+      clients_hold = clients_hold;
+      plans_hold = all_pushed has_limits r.plans x plans_hold limits;
+      current = refl;
+      rising = rising;
+    }
+
+ended_sound : (c : config.Meaning) (o : Option OpenLink) (r : Reading) → IsSound c (record r { current = o }) → IsSound c (ended o (record r { current = None }))
+ended_sound c None r h = h
+ended_sound c (Some l) r h =
+    let parts = and_parts (is_owner_of c l.owner) (is_positive l.room && is_positive l.fail) h.current in
+    plan_added c l.owner l r h.clients h.plans h.clients_hold h.plans_hold parts.0 parts.1 h.rising
+
+closed_sound : (c : config.Meaning) (r : Reading) → IsSound c r → IsSound c (closed r)
+closed_sound c r h = ended_sound c r.current r h
+
+-- a link that begins
+
+begun_sound : (c : config.Meaning) (line : ℕ) (w : Owner) (r : Reading) → IsSound c r → length r.clients + clients_in w ≤ 1000
+    → length r.plans + plans_in w ≤ 4096 → is_owner_of c w ≡ true → IsSound c (with_link (empty_link line w) r)
+begun_sound c line w r h clients plans own = record {
+  clients = clients;
+  plans = plans;
+  clients_hold = h.clients_hold;
+  plans_hold = h.plans_hold;
+  current = and_from _ _ own refl;
+  rising = h.rising;
+}
+
+-- a link that goes on
+
+link_kept : (c : config.Meaning) (r : Reading) (l k : OpenLink) → IsSound c r → r.current ≡ Some l → k.owner ≡ l.owner
+    → (is_positive k.room && is_positive k.fail) ≡ true → IsSound c (with_link k r)
+link_kept c r l k h is own limits =
+    let clients : clients_open r.current ≡ clients_in k.owner = ap clients_open is ∙ ap clients_in (sym own) in
+    let plans : plans_open r.current ≡ plans_in k.owner = ap plans_open is ∙ ap plans_in (sym own) in
+    let parts = and_parts (is_owner_of c l.owner) (is_positive l.room && is_positive l.fail) (sym (ap (is_link_of c) is) ∙ h.current) in
+    record {
+      clients = omega (arith, h.clients, clients);
+      plans = omega (arith, h.plans, plans);
+      clients_hold = h.clients_hold;
+      plans_hold = h.plans_hold;
+      current = and_from _ _ (ap (is_owner_of c) own ∙ parts.0) limits;
+      rising = h.rising;
+    }
+
+limits_of : (c : config.Meaning) (r : Reading) (l : OpenLink) → IsSound c r → r.current ≡ Some l → (is_positive l.room ≡ true) × (is_positive l.fail ≡ true)
+limits_of c r l h is =
+    let parts = and_parts (is_owner_of c l.owner) (is_positive l.room && is_positive l.fail) (sym (ap (is_link_of c) is) ∙ h.current) in
+    and_parts (is_positive l.room) (is_positive l.fail) parts.1
+
+-- the lines
+
+client_keeps : (c : config.Meaning) (line : ℕ) (r : Reading) (ws : Rest) → IsSound c r → Keeps c (means.client_line c line r ws)
+client_keeps c line r ws h =
+    let k = closed_sound c r h in
+    then_keeps c (front_at c ws) _ (λ front front_is. then_keeps c (worker_at c front.1) _ (λ worker worker_is.
+    then_keeps c (moment_at worker.1) _ (λ m _. then_keeps c (at_end m.1) _ (λ e _.
+    then_keeps c (unless (nat_le 1000 (length (closed r).clients)) TooMany) _ (λ few few_is.
+    let lt = leb-false 1000 (length (closed r).clients) (held _ TooMany few few_is) in
+    kept_moment c m.0 (with_link (empty_link line (owner.Client front.0 worker.0 m.0)) (closed r))
+    (begun_sound c line (owner.Client front.0 worker.0 m.0) (closed r) k (omega (arith, lt)) (omega (arith, k.plans))
+    (and_from _ _ (front_in c ws front front_is) (worker_in c front.1 worker worker_is))))))))
+
+server_keeps : (c : config.Meaning) (line : ℕ) (r : Reading) (ws : Rest) → IsSound c r → Keeps c (means.server_line c line r ws)
+server_keeps c line r ws h =
+    let k = closed_sound c r h in
+    then_keeps c (server_at c ws) _ (λ server _. then_keeps c (means.refuse_at server.1) _ (λ refuse _.
+    then_keeps c (unless (nat_le 4096 (length (closed r).plans)) TooMany) _ (λ few few_is.
+    let lt = leb-false 4096 (length (closed r).plans) (held _ TooMany few few_is) in
+    begun_sound c line (owner.Server server.0 refuse) (closed r) k (omega (arith, k.clients)) (omega (arith, lt)) refl)))
+
+piece_keeps : (c : config.Meaning) (r : Reading) (ws : Rest) → IsSound c r → Keeps c (means.piece_line r ws)
+piece_keeps c r ws h =
+    then_keeps c (moment_at ws) _ (λ m _. then_keeps c (number_at 0 greatest m.1) _ (λ sent _.
+    then_keeps c (text_at sent.1) _ (λ bytes _. then_keeps c (at_end bytes.1) _ (λ e _.
+    then_keeps c (link_at m.0 r.current) _ (λ l l_is.
+    let there = link_at_there m.0 r.current l l_is in
+    let limits = limits_of c r l h there in
+    let more : OpenLink = record l { pieces = l.pieces ++ (record { at = m.0; after = sent.0; bytes = bytes.0 }) ∷ []; latest = m.0 } in
+    kept_moment c m.0 (with_link more r) (link_kept c r l more h there refl (and_from _ _ limits.0 limits.1)))))))
+
+end_keeps : (c : config.Meaning) (r : Reading) (ws : Rest) → IsSound c r → Keeps c (means.end_line r ws)
+end_keeps c r ws h =
+    then_keeps c (moment_at ws) _ (λ m _. then_keeps c (number_at 0 greatest m.1) _ (λ sent _. then_keeps c (at_end sent.1) _ (λ e _.
+    then_keeps c (link_at m.0 r.current) _ (λ l l_is.
+    let there = link_at_there m.0 r.current l l_is in
+    let limits = limits_of c r l h there in
+    let more : OpenLink = record l { end = Some (m.0, sent.0) } in
+    kept_moment c m.0 (with_link more r) (link_kept c r l more h there refl (and_from _ _ limits.0 limits.1))))))
+
+room_keeps : (c : config.Meaning) (r : Reading) (ws : Rest) → IsSound c r → Keeps c (means.room_line r ws)
+room_keeps c r ws h =
+    then_keeps c (number_at 1 greatest ws) _ (λ n n_is. then_keeps c (at_end n.1) _ (λ e _. then_keeps c (link_of r.current) _ (λ l l_is.
+    then_keeps c (unless (is_some l.room) WrongPlace) _ (λ once _.
+    let there = link_there r.current l l_is in
+    link_kept c r l (record l { room = Some n.0 }) h there refl (and_from _ _ (number_low 1 greatest ws n n_is) (limits_of c r l h there).1)))))
+
+fail_keeps : (c : config.Meaning) (r : Reading) (ws : Rest) → IsSound c r → Keeps c (means.fail_line r ws)
+fail_keeps c r ws h =
+    then_keeps c (number_at 1 greatest ws) _ (λ k k_is. then_keeps c (at_end k.1) _ (λ e _. then_keeps c (link_of r.current) _ (λ l l_is.
+    then_keeps c (unless (is_some l.fail) WrongPlace) _ (λ once _.
+    let there = link_there r.current l l_is in
+    link_kept c r l (record l { fail = Some k.0 }) h there refl (and_from _ _ (limits_of c r l h there).0 (number_low 1 greatest ws k k_is))))))
+
+order_keeps : (what : OrderWord) (c : config.Meaning) (r : Reading) (ws : Rest) → IsSound c r → Keeps c (means.order_line what c r ws)
+order_keeps what c r ws h =
+    then_keeps c (moment_at ws) _ (λ m _. then_keeps c (server_at c m.1) _ (λ server _. then_keeps c (at_end server.1) _ (λ e _.
+    let more : Reading = record r { orders = r.orders ++ (m.0, means.order_of what server.0) ∷ [] } in
+    kept_moment c m.0 more (record {
+      clients = h.clients;
+      plans = h.plans;
+      clients_hold = h.clients_hold;
+      plans_hold = h.plans_hold;
+      current = h.current;
+      rising = h.rising;
+    }))))
+
+tick_keeps : (c : config.Meaning) (r : Reading) (ws : Rest) → IsSound c r → Keeps c (means.tick_line r ws)
+tick_keeps c r ws h = then_keeps c (moment_at ws) _ (λ m _. then_keeps c (at_end m.1) _ (λ e _. kept_moment c m.0 r h))
+
+said_keeps : (f : FirstWord) (c : config.Meaning) (line : ℕ) (r : Reading) (ws : Rest) → IsSound c r → Keeps c (means.said f c line r ws)
+unfolding means.said
+said_keeps first.Client c line r ws h = client_keeps c line r ws h
+said_keeps first.Server c line r ws h = server_keeps c line r ws h
+said_keeps first.Piece c line r ws h = piece_keeps c r ws h
+said_keeps first.End c line r ws h = end_keeps c r ws h
+said_keeps first.Room c line r ws h = room_keeps c r ws h
+said_keeps first.Fail c line r ws h = fail_keeps c r ws h
+said_keeps first.Drain c line r ws h = order_keeps ordered.Drain c r ws h
+said_keeps first.Ready c line r ws h = order_keeps ordered.Ready c r ws h
+said_keeps first.Tick c line r ws h = tick_keeps c r ws h
+
+line_keeps : (c : config.Meaning) (line : ℕ) (r : Reading) (l : List ℕ) → IsSound c r → Keeps c (means.line_read c line r l)
+unfolding means.line_read
+line_keeps c line r l h =
+    then_keeps c (word_at (Some l)) _ (λ x _. then_keeps c (found_or BadLine (found first_words x.0)) _ (λ f _. said_keeps f c line r x.1 h))
+
+-- the whole text
+
+located_keeps : (c : config.Meaning) (line : ℕ) (x : Result Reading Rule) (f : Reading → Result Reading Flaw) → Keeps c x
+    → ((s : Reading) → IsSound c s → IfOk (f s) (IsSound c)) → IfOk (located line x >>= f) (IsSound c)
+located_keeps c line (Ok s) f k h = h s k
+located_keeps c line (Err e) f k h = tt
+
+lines_keep : (c : config.Meaning) (line : ℕ) (r : Reading) (ls : List (List ℕ)) → IsSound c r → IfOk (lines_read c line r ls) (IsSound c)
+unfolding lines_read
+lines_keep c line r [] h = h
+lines_keep c line r (l ∷ ls) h =
+    located_keeps c line (means.line_read c line r l) (λ s. lines_read c (line + 1) s ls) (line_keeps c line r l h) (λ s k. lines_keep c (line + 1) s ls k)
+
+nothing_sound : (c : config.Meaning) → IsSound c nothing_read
+nothing_sound c = record {
+  clients = omega arith;
+  plans = omega arith;
+  clients_hold = refl;
+  plans_hold = refl;
+  current = refl;
+  rising = refl;
+}
+
+pub text_sound : (c : config.Meaning) (line : ℕ) (ls : List (List ℕ)) (r : Reading) → lines_read c line nothing_read ls ≡ Ok r → IsSound c r
+text_sound c line ls r is = IfOk-at_ok (IsSound c) is (lines_keep c line nothing_read ls (nothing_sound c))
+
+pub script_within : (c : config.Meaning) (r : Reading) → IsSound c r
+    → IsWithin c (closed r).clients (closed r).plans (as_moments (with_moment (record { 0 = 0 }) (closed r).moments))
+script_within c r h =
+    let k = closed_sound c r h in
+    record {
+      clients_in = omega (arith, k.clients);
+      plans_in = omega (arith, k.plans);
+      clients_hold = k.clients_hold;
+      plans_hold = k.plans_hold;
+      begins = zero_first (closed r).moments;
+      rising = rising_insert (closed r).moments 0 k.rising;
+    }
+
+-- the same of what calls left and gave
+pub given_within : (c : config.Meaning) (r t : Reading) (u : List ℕ) (clients : List ClientLine) (plans : List Plan) (moments : List Millis) → IsSound c r
+    → ◌≡◌ {A = Result Reading Rule} (Ok (closed r)) (Ok t) → ◌≡◌ {A = Result (List ℕ) Rule} (Ok (with_moment (record { 0 = 0 }) t.moments)) (Ok u)
+    → clients ≡ t.clients → plans ≡ t.plans → ◌≡◌ {A = Result (List Millis) Rule} (Ok (as_moments u)) (Ok moments) → IsWithin c clients plans moments
+given_within c r t u clients plans moments h over added clients_is plans_is moments_is =
+    let k = script_within c r h in
+    let over_is : closed r ≡ t = ok_inj (closed r) t over in
+    let all : as_moments (with_moment (record { 0 = 0 }) (closed r).moments) ≡ moments =
+    ap (λ (x : Reading). as_moments (with_moment (record { 0 = 0 }) x.moments)) over_is ∙ ap as_moments (ok_inj _ u added) ∙ ok_inj (as_moments u) moments moments_is in
+    let P : List Millis → Type 0 = λ ms. IsWithin c (closed r).clients (closed r).plans ms in
+    let Q : List ClientLine → Type 0 = λ xs. IsWithin c xs (closed r).plans moments in
+    let R : List Plan → Type 0 = λ ps. IsWithin c clients ps moments in
+    subst R (ap (λ (x : Reading). x.plans) over_is ∙ sym plans_is)
+    (subst Q (ap (λ (x : Reading). x.clients) over_is ∙ sym clients_is) (subst P all k))

@@ -1,0 +1,13 @@
+pub mod ByteText
+pub mod Faults
+pub mod Keywords
+pub mod Lexical
+pub mod Limits
+pub mod Meaning
+pub mod Names
+pub mod Numbers
+pub mod QuotedReading
+pub mod Reading
+pub mod Sound
+pub mod Statements
+pub mod Views
