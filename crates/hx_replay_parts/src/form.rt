@@ -3,6 +3,7 @@ ghost use Rattle.std.specs.Prelude.{◌≡◌, ◌⊎◌, ◌↔◌, ◌≤◌, 
 ghost use Rattle.hx_config.specs.Views.{meaning};
 ghost use Rattle.hx_replay_parts.specs.ConfigPart.{most_number};
 ghost use Rattle.hx_replay_parts.specs.ScriptText.{client_words, end_words, server_words, between};
+ghost use Rattle.hx_replay_parts.specs.Replayable.{most_script};
 ghost use Rattle.hx_replay_parts.specs.Routes.{IsNamed};
 ghost use Rattle.hx_replay_parts.specs.FormParts.{StripsTo, NoPrefix, IsPartedSo, NoParts, HaveLengths, NoMessages, NoExchange, IsExchangeOf, IsReadFrom, IsFormBehind, IsForm};
 
@@ -19,14 +20,15 @@ use std::alloc::Global;
 /// The most bytes of a script.
 pub const MOST_SCRIPT: usize = 1_048_576;
 
-/// The messages of a script, how long the texts are that go out for them, and the client's line.
+/// The messages of a script, how long the texts are that go out for them, and the lines of the client and the server.
 #[derive(Drop)]
 pub(crate) struct Script {
     pub ask: Bytes,
     pub answer: Bytes,
     pub sent: usize,
     pub gave: usize,
-    pub line: u32,
+    pub client_line: u32,
+    pub server_line: u32,
 }
 
 /// What a text is.
@@ -161,6 +163,9 @@ fn first_lengths(ask: &[u8], answer: &[u8]) -> Option<(usize, usize)>
     }
 }
 
+/// The server's line stands so many lines behind the client's.
+const TO_SERVER_LINE: u32 = 3;
+
 /// The messages of the lines behind the configuration, the first of which has this number.
 fn read_exchange(
     alloc: Global,
@@ -168,7 +173,8 @@ fn read_exchange(
     lines: &[u8],
     line: u32,
 ) -> Result<Option<Script>, NoMemory>
-    requires { IsNamed route.now }
+    requires named { IsNamed route.now }
+    requires early { line ≤ most_script + 3 }
     ensures { IfOk result (λ o. MatchOption o (NoExchange route.now lines.now) (IsExchangeOf route.now lines.now)) }
 {
     let Some((ask, middle, answer)) = read_parts(alloc, route, lines)? else {
@@ -184,7 +190,8 @@ fn read_exchange(
             answer: Bytes::from_vec(answer),
             sent,
             gave,
-            line,
+            client_line: line,
+            server_line: line + TO_SERVER_LINE,
         }))
     } else {
         Ok(None)
@@ -198,7 +205,8 @@ fn exchange_behind(
     lines: &[u8],
     line: u32,
 ) -> Result<Form, NoMemory>
-    requires { IsReadFrom config.now }
+    requires read { IsReadFrom config.now }
+    requires early { line ≤ most_script + 3 }
     ensures { IfOk result (IsFormBehind (meaning config.now) lines.now) }
 {
     let Some(route) = route_of(alloc, config)? else {

@@ -27,9 +27,6 @@ const SERVER: ServerNo = ServerNo(0);
 /// How many marks the run makes at most.
 const MARKS: usize = 5;
 
-/// The server's line stands so many lines behind the client's.
-const SERVER_LINE: u32 = 3;
-
 /// What a text is replayed to.
 #[derive(Drop)]
 pub enum Replay {
@@ -84,9 +81,9 @@ fn replay_script(alloc: Global, route: Route, script: Script) -> Result<Transcri
     requires messages { HasMessages script }
     ensures { IfOk result (TellsScript route script) }
 {
-    let line = script.line;
-    let mut client = MemoryLink::new(plan_client(alloc, line, script.ask, script.gave)?);
-    let plan = plan_server(alloc, line + SERVER_LINE, script.answer, script.sent)?;
+    let plan = plan_client(alloc, script.client_line, script.ask, script.gave)?;
+    let mut client = MemoryLink::new(plan);
+    let plan = plan_server(alloc, script.server_line, script.answer, script.sent)?;
     let mut server = MemoryLink::new(plan);
     let mut seat = first_seat(alloc, route.rules)?;
     let id = open_first::<ServerConn, FirstSeat>(&mut seat);

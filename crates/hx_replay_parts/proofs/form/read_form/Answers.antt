@@ -15,6 +15,11 @@ overflow_add-count c =
     let few = count_small c.args.text.now c.in-Some.config.now c.in-Some.lines.now c.in-Some.count c.in-Some.ensures in
     omega (arith, few, c.if-text-gt-MOST_SCRIPT.false)
 
+pub exchange_behind-requires-clause-early : goal.exchange_behind-requires-clause-early
+exchange_behind-requires-clause-early c =
+    let few = count_small c.args.text.now c.in-Some.config.now c.in-Some.lines.now c.in-Some.count c.in-Some.ensures in
+    omega (arith, few, c.if-text-gt-MOST_SCRIPT.false)
+
 pub returns-in_default : goal.returns-in_default
 returns-in_default c = no_front c.args.text.now c.in_default.ensures
 
