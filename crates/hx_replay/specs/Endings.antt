@@ -1,10 +1,10 @@
 -- How a run of the program ends, why, and what is written then.
-use Rattle.std.specs.Prelude.{◌≡◌, ◌⊎◌, ℕ, ◌≤◌, true, List, [], length, codes, IfSome}
+use Rattle.std.specs.Prelude.{◌≡◌, ◌⊎◌, ℕ, ◌≤◌, true, List, [], ◌++◌, length, codes, decimal, IfSome}
 use Rattle.hx_base.specs.Counts.{Rose}
 use Rattle.hx_link.specs.Told.{SourceState, SinkState}
 use Rattle.hx_link.specs.Whole.{WritesAll, WritesPart}
-use Rattle.hx_replay_parts.specs.FirstForm.{most_script}
-use Rattle.hx_replay_parts.specs.Replays.{Replays, NoForm}
+use Rattle.hx_replay_parts.specs.Replayable.{most_script, HasConfigFault, IsUnbuiltScript}
+use Rattle.hx_replay_parts.specs.Replays.{Replays}
 use Rattle.hx_replay.specs.Commands.{Means, NoCommand}
 use Rattle.hx_replay.specs.declared.command.Command.TheVariants.{Replay, Check, Drill}
 use Rattle.hx_replay.specs.declared.ending.Ending.{Ending}
@@ -17,6 +17,10 @@ usage_text = codes "usage: hx_replay replay | check | drill <start> <threads> <s
 abbrev pub unbuilt_text : List ℕ
 unbuilt_text = codes "unbuilt\n"
 
+-- the line of a configuration's first fault: its line, counted from 1, and the number of its rule
+abbrev pub config_text : ℕ → ℕ → List ℕ
+config_text line rule = codes "config " ++ decimal line ++ codes " " ++ decimal rule ++ codes "\n"
+
 -- the source was read to its end without a fault, what it gave is a script, and its replay prints the text
 pub record Replayed (words : List (List ℕ)) (old new : SourceState) (text : List ℕ) : Type 0 where
   pub command : Means words Replay
@@ -27,11 +31,20 @@ pub record Replayed (words : List (List ℕ)) (old new : SourceState) (text : Li
   pub short : length bytes ≤ most_script
   pub replays : Replays bytes text
 
--- what isn't built yet: the other commands, and scripts of another form, which were read without a fault
+-- the source was read to its end without a fault, and what it gave is a script whose configuration has this first fault
+pub record HasFault (words : List (List ℕ)) (old new : SourceState) (line rule : ℕ) : Type 0 where
+  pub command : Means words Replay
+  pub ended : new.told_end ≡ true
+  pub same : new.faults ≡ old.faults
+  pub bytes : List ℕ
+  pub read : IfSome old.left (λ left. bytes ≡ left)
+  pub fault : HasConfigFault bytes line rule
+
+-- what isn't built yet: the other commands, and texts that are neither of these scripts, which were read without a fault
 abbrev pub IsUnbuilt : List (List ℕ) → SourceState → SourceState → Type 0
 IsUnbuilt words old new =
     Means words Check ⊎ Means words Drill
-    ⊎ (Means words Replay × (new.faults ≡ old.faults) × IfSome old.left NoForm)
+    ⊎ (Means words Replay × (new.faults ≡ old.faults) × IfSome old.left IsUnbuiltScript)
 
 -- the cause of each ending; want of memory alone has none
 abbrev pub HasCause : List (List ℕ) → SourceState → SourceState → Ending → Type 0
@@ -39,6 +52,8 @@ HasCause words old new ending.Usage = NoCommand words
 HasCause words old new ending.SourceFault = Means words Replay × Rose old.faults new.faults
 HasCause words old new ending.Unbuilt = IsUnbuilt words old new
 HasCause words old new (ending.Done text) = Replayed words old new text.items
+HasCause words old new (ending.ConfigFault text) =
+    (line : ℕ) × (rule : ℕ) × HasFault words old new line rule × (text.items ≡ config_text line rule)
 HasCause words old new ending.NoMemory = Unit {0}
 
 -- what is written at an ending
@@ -47,6 +62,7 @@ text_of ending.Usage = usage_text
 text_of ending.SourceFault = []
 text_of ending.Unbuilt = unbuilt_text
 text_of (ending.Done text) = text.items
+text_of (ending.ConfigFault text) = text.items
 text_of ending.NoMemory = []
 
 abbrev pub status_of : Ending → ℕ
@@ -54,6 +70,7 @@ status_of ending.Usage = 1
 status_of ending.SourceFault = 2
 status_of ending.Unbuilt = 8
 status_of (ending.Done text) = 0
+status_of (ending.ConfigFault text) = 4
 status_of ending.NoMemory = 9
 
 -- a run came to an ending with its cause and wrote its text; or the sink failed, and took a beginning of it
@@ -64,18 +81,27 @@ IsRun words old new sink_old sink_new status =
     ⊎ (status ≡ 3) × Rose sink_old.faults sink_new.faults × WritesPart sink_old sink_new (text_of e))
 
 -- what a replay of these bytes may come to
-abbrev pub IsReplayOf : List ℕ → Ending → Type 0
-IsReplayOf bytes ending.Usage = ⊥
-IsReplayOf bytes ending.SourceFault = ⊥
-IsReplayOf bytes ending.Unbuilt = NoForm bytes
-IsReplayOf bytes (ending.Done text) = Replays bytes text.items
-IsReplayOf bytes ending.NoMemory = Unit {0}
+abbrev pub IsEndingOf : List ℕ → Ending → Type 0
+IsEndingOf bytes ending.Usage = ⊥
+IsEndingOf bytes ending.SourceFault = ⊥
+IsEndingOf bytes ending.Unbuilt = IsUnbuiltScript bytes
+IsEndingOf bytes (ending.Done text) = Replays bytes text.items
+IsEndingOf bytes (ending.ConfigFault text) =
+    (line : ℕ) × (rule : ℕ) × HasConfigFault bytes line rule × (text.items ≡ config_text line rule)
+IsEndingOf bytes ending.NoMemory = Unit {0}
+
+-- the line of this fault, or want of memory
+abbrev pub TellsFault : ℕ → ℕ → Ending → Type 0
+TellsFault line rule (ending.ConfigFault text) = text.items ≡ config_text line rule
+TellsFault line rule ending.NoMemory = Unit {0}
+TellsFault line rule _ = ⊥
 
 -- the replay was done, and its whole text was written
 abbrev pub IsDone : List (List ℕ) → SourceState → SourceState → SinkState → SinkState → Type 0
 IsDone words old new sink_old sink_new =
     (text : List ℕ) × Replayed words old new text × WritesAll sink_old sink_new text
 
--- what the statuses say, one by one
-abbrev pub EndsDone : List (List ℕ) → SourceState → SourceState → SinkState → SinkState → ℕ → Type 0
-EndsDone words old new sink_old sink_new status = status ≡ 0 → IsDone words old new sink_old sink_new
+-- the configuration has a first fault, and the line that says so was written
+abbrev pub IsRefused : List (List ℕ) → SourceState → SourceState → SinkState → SinkState → Type 0
+IsRefused words old new sink_old sink_new =
+    (line : ℕ) × (rule : ℕ) × HasFault words old new line rule × WritesAll sink_old sink_new (config_text line rule)

@@ -1,23 +1,62 @@
 //! A run of the program.
-ghost use Rattle.std.specs.Prelude.{◌≡◌, ◌≤◌, ◌⊎◌, ◌∷◌, [], ℕ, length, codes, IfSome};
+ghost use Rattle.std.specs.Prelude.{◌≡◌, ◌⊎◌, ◌++◌, ◌∷◌, [], codes, decimal, IfOk, OnOk};
 ghost use Rattle.hx_base.specs.Counts.{Rose};
 ghost use Rattle.hx_link.specs.Whole.{WritesAll};
 ghost use Rattle.hx_replay.specs.Commands.{words_of, NoCommand};
-ghost use Rattle.hx_replay.specs.Endings.{HasCause, IsRun, IsDone, IsUnbuilt, Replayed, usage_text, unbuilt_text, text_of, IsReplayOf};
+ghost use Rattle.hx_replay.specs.Endings.{HasCause, IsRun, IsDone, IsRefused, IsUnbuilt, usage_text, unbuilt_text, config_text, IsEndingOf, TellsFault};
 
 use crate::command::{Command, command_of};
 use crate::ending::{Ending, status, text};
+use hx_base::NoMemory;
 use hx_link::{ReadFault, Sink, Source, read_all, write_all};
-use hx_replay_parts::{MOST_SCRIPT, replay_text};
+use hx_replay_parts::{MOST_SCRIPT, Replay, replay_text};
+use itoa::Buffer;
 use std::alloc::Global;
+
+fn put(out: &mut Vec<u8>, text: &[u8]) -> Result<(), NoMemory>
+    ensures { OnOk result (out.new.items ≡ out.old.items ++ text.now) }
+{
+    out.extend_from_slice(text)?;
+    Ok(())
+}
+
+fn put_number(out: &mut Vec<u8>, n: u32) -> Result<(), NoMemory>
+    ensures { OnOk result (out.new.items ≡ out.old.items ++ decimal n) }
+{
+    let mut buffer = Buffer::new();
+    put(out, buffer.format(n).as_bytes())
+}
+
+/// The line of a configuration's first fault.
+fn fault_line(alloc: Global, line: u32, rule: u8) -> Result<Vec<u8>, NoMemory>
+    ensures { IfOk result (λ text. text.items ≡ config_text line rule) }
+{
+    let mut out = Vec::new(alloc);
+    put(&mut out, b"config ")?;
+    put_number(&mut out, line)?;
+    put(&mut out, b" ")?;
+    put_number(&mut out, u32::from(rule))?;
+    put(&mut out, b"\n")?;
+    Ok(out)
+}
+
+fn config_fault(alloc: Global, line: u32, rule: u8) -> Ending
+    ensures { TellsFault line rule result }
+{
+    match fault_line(alloc, line, rule) {
+        Ok(text) => Ending::ConfigFault(text),
+        Err(_) => Ending::NoMemory,
+    }
+}
 
 /// A replay of these bytes.
 fn replay(alloc: Global, bytes: &[u8]) -> Ending
-    ensures { IsReplayOf bytes.now result }
+    ensures { IsEndingOf bytes.now result }
 {
     match replay_text(alloc, bytes) {
-        Ok(Some(text)) => Ending::Done(text),
-        Ok(None) => Ending::Unbuilt,
+        Ok(Replay::Text(text)) => Ending::Done(text),
+        Ok(Replay::ConfigFault { line, rule }) => config_fault(alloc, line, rule),
+        Ok(Replay::Unbuilt) => Ending::Unbuilt,
         Err(_) => Ending::NoMemory,
     }
 }
@@ -50,8 +89,8 @@ fn run<S: Source>(alloc: Global, words: &[String], source: &mut S) -> Ending
 
 /// The program: it does what the words ask for, and answers the status.
 ///
-/// 0 a transcript was printed; 1 the words are no command; 2 the source failed; 3 the sink failed; 8 what is asked for
-/// isn't built yet; 9 want of memory.
+/// 0 a transcript was printed; 1 the words are no command; 2 the source failed; 3 the sink failed; 4 the script's
+/// configuration has a fault; 8 what is asked for isn't built yet; 9 want of memory.
 pub fn replay_main<R, S: Source, K: Sink>(
     rt: &R,
     alloc: Global,
@@ -66,10 +105,12 @@ pub fn replay_main<R, S: Source, K: Sink>(
     ensures source { result ≡ 2
         → Rose (S.state source.old).faults (S.state source.new).faults × (K.state sink.new ≡ K.state sink.old) }
     ensures sink { result ≡ 3 → Rose (K.state sink.old).faults (K.state sink.new).faults }
+    ensures config { result ≡ 4
+        → IsRefused (words_of words.now) (S.state source.old) (S.state source.new) (K.state sink.old) (K.state sink.new) }
     ensures unbuilt { result ≡ 8
         → IsUnbuilt (words_of words.now) (S.state source.old) (S.state source.new)
         × WritesAll (K.state sink.old) (K.state sink.new) unbuilt_text }
-    ensures known { (result ≡ 0) ⊎ (result ≡ 1) ⊎ (result ≡ 2) ⊎ (result ≡ 3) ⊎ (result ≡ 8) ⊎ (result ≡ 9) }
+    ensures known { (result ≡ 0) ⊎ (result ≡ 1) ⊎ (result ≡ 2) ⊎ (result ≡ 3) ⊎ (result ≡ 4) ⊎ (result ≡ 8) ⊎ (result ≡ 9) }
 {
     let _rt = rt;
     let ending = run(alloc, words, source);

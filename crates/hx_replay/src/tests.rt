@@ -1,6 +1,9 @@
 //! Whole runs over a source and a sink in memory.
 ghost use Rattle.std.specs.Prelude.{◌≡◌, IfOk};
 
+mod configs;
+mod modes;
+
 use crate::replay_main;
 use hx_link::{MemorySink, MemorySource, Reading, Writing};
 use std::alloc::Global;

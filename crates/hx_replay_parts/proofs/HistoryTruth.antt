@@ -1,4 +1,4 @@
--- The history of a script of the first form is legal, keeps the rules, and has the marks and totals that are told.
+-- The history of a script of one exchange is legal, keeps the rules, and has the marks and totals that are told.
 use Rattle.std.proofs.Common.{◌≡◌, ℕ, ◌<◌, ◌≤◌, true, false, List, [], ◌∷◌, ◌++◌, refl, sym, ap, subst, ◌∙◌, arith, append_assoc}
 use Rattle.hx_base.specs.declared.numbers.ThreadNo.{ThreadNo}
 use Rattle.hx_base.specs.declared.rules.PoolRules.{PoolRules}
@@ -11,15 +11,18 @@ use Rattle.hx_pool.specs.Table.{Table, Closed, face_of, after}
 use Rattle.hx_pool.specs.History.{plain, entries_of, marks_of, table_from, table_after}
 use Rattle.hx_pool.specs.Rules.{KeepsMode, KeepsLimit}
 use Rattle.hx_pool.specs.Totals.{totals_after, totals_from, totals_of}
-use Rattle.hx_pool.specs.SeatView.{History}
+use Rattle.std.proofs.Common.{Bool, inl, inr}
+use Rattle.std.specs.Prelude.{if◌then◌else◌}
+use Rattle.hx_pool.specs.SeatView.{History, StandsInOneHistory}
+use Rattle.hx_replay_parts.specs.declared.route.Route.{Route}
 use Rattle.hx_pool.specs.Causes.{AllLooks, caretaker}
 use Rattle.hx_pool.specs.Taking.{taking}
 use Rattle.hx_pool.proofs.Histories.{marks_of-append}
 use Rattle.hx_pool.proofs.Calls.{looks_marks}
-use Rattle.hx_replay_parts.specs.FirstRun.{worker, session, conn, place, first_marks, first_server, first_totals}
-use Rattle.hx_replay_parts.specs.FirstHistory.{opened_notes, parking_notes, closed_notes, IsClosed}
+use Rattle.hx_replay_parts.specs.FirstRun.{worker, session, conn, place, resting_marks, leaving_marks, marks_under, resting_totals, leaving_totals, totals_under, may_rest, server_of}
+use Rattle.hx_replay_parts.specs.FirstHistory.{opened_notes, parking_notes, closed_notes, over_notes, StandsAlone, IsClosed, IsOver}
 use Rattle.hx_replay_parts.specs.TrueTranscript.{IsTrueServer}
-use Rattle.hx_replay_parts.proofs.FirstHistoryLemmas.{alone_seen}
+use Rattle.hx_replay_parts.proofs.Alone.{alone_seen}
 
 -- ---- looks change nothing of what stands behind them
 
@@ -62,12 +65,12 @@ closed_flat looks what more =
     ap (λ (xs : List Note). plain (Open worker session conn) ∷ xs)
     (flat looks (parking_notes what) (plain (SetGate worker true) ∷ []) more (taking worker caretaker false place (face_of conn 1) 1) (plain (Close worker caretaker conn) ∷ []))
 
-flat_marks : (looks : List Note) (what : What) (more : List Note) → AllLooks worker looks → AllLooks worker more → marks_of (flat_notes looks what more) ≡ first_marks
+flat_marks : (looks : List Note) (what : What) (more : List Note) → AllLooks worker looks → AllLooks worker more → marks_of (flat_notes looks what more) ≡ resting_marks
 flat_marks looks what more l m =
     ap (λ (es : List Entry). Open worker session conn ∷ es) (marks_behind worker looks (middle_notes what (more ++ last_notes)) l)
     ∙ ap (λ (es : List Entry). Open worker session conn ∷ Park worker session conn place 1 ∷ SetGate worker true ∷ es) (marks_behind worker more last_notes m)
 
-flat_totals : (looks : List Note) (what : What) (more : List Note) → AllLooks worker looks → AllLooks worker more → totals_of (entries_of (flat_notes looks what more)) ≡ first_totals
+flat_totals : (looks : List Note) (what : What) (more : List Note) → AllLooks worker looks → AllLooks worker more → totals_of (entries_of (flat_notes looks what more)) ≡ resting_totals
 flat_totals looks what more l m =
     totals_behind worker looks (middle_notes what (more ++ last_notes)) (totals_of (entries_of opened_notes)) l
     ∙ totals_behind worker more last_notes (totals_of (entries_of (opened_notes ++ middle_notes what []))) m
@@ -85,10 +88,10 @@ mine_flat h what c = c.alone.mine ∙ closed_flat c.looks what c.more
 seen_flat : (h : History) (what : What) (c : IsClosed h what) → h.seen ≡ flat_notes c.looks what c.more
 seen_flat h what c = alone_seen h (closed_notes c.looks what c.more) c.alone ∙ closed_flat c.looks what c.more
 
-pub closed_marks : (h : History) (what : What) → IsClosed h what → marks_of h.mine ≡ first_marks
+closed_marks : (h : History) (what : What) → IsClosed h what → marks_of h.mine ≡ resting_marks
 closed_marks h what c = ap marks_of (mine_flat h what c) ∙ flat_marks c.looks what c.more c.looked c.looked_more
 
-pub closed_totals : (h : History) (what : What) → IsClosed h what → totals_of (entries_of h.mine) ≡ first_totals
+closed_totals : (h : History) (what : What) → IsClosed h what → totals_of (entries_of h.mine) ≡ resting_totals
 closed_totals h what c = ap (λ (xs : List Note). totals_of (entries_of xs)) (mine_flat h what c) ∙ flat_totals c.looks what c.more c.looked c.looked_more
 
 closed_table : (h : History) (what : What) → IsClosed h what → table_after h.seen ≡ table_after (bare_notes what)
@@ -101,13 +104,55 @@ all_closed what T e i low high =
     let one : 1 ≡ i = omega arith in
     subst (λ (U : Table). U.conns i ≡ Closed) (sym e) (subst (λ k. (table_after (bare_notes what)).conns k ≡ Closed) one refl)
 
-pub true_server : (h : History) (what : What) → IsClosed h what → IsTrueServer first_server first_totals
-true_server h what c = record {
-  history = h.seen;
-  legal = c.alone.one.legal;
-  mode = subst (λ (r : PoolRules). KeepsMode r h.seen) c.alone.rules c.alone.one.mode;
-  limit = subst (λ (r : PoolRules). KeepsLimit r h.seen) c.alone.rules c.alone.one.limit;
-  marks = sym (ap marks_of (seen_flat h what c) ∙ flat_marks c.looks what c.more c.looked c.looked_more);
-  closed = all_closed what (table_after h.seen) (closed_table h what c);
-  totals_are = sym (ap (λ (xs : List Note). totals_of (entries_of xs)) (seen_flat h what c) ∙ flat_totals c.looks what c.more c.looked c.looked_more);
-}
+-- where the session closed its connection, it is closed too
+all_left : (T : Table) → T ≡ table_after over_notes → (i : ℕ) → 1 ≤ i → i < T.next → T.conns i ≡ Closed
+all_left T e i low high =
+    let top : i < 2 = subst (λ (U : Table). i < U.next) e high in
+    let one : 1 ≡ i = omega arith in
+    subst (λ (U : Table). U.conns i ≡ Closed) (sym e) (subst (λ k. (table_after over_notes).conns k ≡ Closed) one refl)
+
+-- ---- the end of a run
+
+abbrev marks_so : Bool → List Entry
+marks_so b = if b then resting_marks else leaving_marks
+
+abbrev totals_so : Bool → Totals
+totals_so b = if b then resting_totals else leaving_totals
+
+pub over_marks : (h : History) (what : What) → IsOver h what → marks_of h.mine ≡ marks_under h.about.rules
+over_marks h what (inl (may, c)) = closed_marks h what c ∙ ap marks_so (sym may)
+over_marks h what (inr (may_not, s)) = ap marks_of s.mine ∙ ap marks_so (sym may_not)
+
+pub over_totals : (h : History) (what : What) → IsOver h what → totals_of (entries_of h.mine) ≡ totals_under h.about.rules
+over_totals h what (inl (may, c)) = closed_totals h what c ∙ ap totals_so (sym may)
+over_totals h what (inr (may_not, s)) =
+    ap (λ (xs : List Note). totals_of (entries_of xs)) s.mine ∙ ap totals_so (sym may_not)
+
+-- alone at the board, what was seen is its own
+seen_mine : (h : History) (entries : List Note) → StandsAlone h entries → h.seen ≡ h.mine
+seen_mine h entries s = alone_seen h entries s ∙ sym s.mine
+
+over_seen : (h : History) (what : What) → IsOver h what → h.seen ≡ h.mine
+over_seen h what (inl (may, c)) = seen_mine h (closed_notes c.looks what c.more) c.alone
+over_seen h what (inr (may_not, s)) = seen_mine h over_notes s
+
+over_one : (h : History) (what : What) → IsOver h what → StandsInOneHistory h
+over_one h what (inl (may, c)) = c.alone.one
+over_one h what (inr (may_not, s)) = s.one
+
+over_closed : (h : History) (what : What) → IsOver h what → (i : ℕ) → 1 ≤ i → i < (table_after h.seen).next → (table_after h.seen).conns i ≡ Closed
+over_closed h what (inl (may, c)) = all_closed what (table_after h.seen) (closed_table h what c)
+over_closed h what (inr (may_not, s)) = all_left (table_after h.seen) (ap table_after (alone_seen h over_notes s))
+
+pub true_server : (route : Route) (h : History) (what : What) → h.about.rules ≡ route.rules → IsOver h what
+    → IsTrueServer (server_of route) (totals_under route.rules)
+true_server route h what rules over =
+    let one = over_one h what over in record {
+      history = h.seen;
+      legal = one.legal;
+      mode = subst (λ (r : PoolRules). KeepsMode r h.seen) rules one.mode;
+      limit = subst (λ (r : PoolRules). KeepsLimit r h.seen) rules one.limit;
+      marks = sym (ap marks_of (over_seen h what over) ∙ over_marks h what over ∙ ap marks_under rules);
+      closed = over_closed h what over;
+      totals_are = sym (ap (λ (xs : List Note). totals_of (entries_of xs)) (over_seen h what over) ∙ over_totals h what over ∙ ap totals_under rules);
+    }

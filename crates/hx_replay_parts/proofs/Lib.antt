@@ -1,7 +1,16 @@
+pub mod Alone
+pub mod ConfigLemmas
+pub mod ConfigNames
+pub mod Draining
 pub mod ExchangeLemmas
-pub mod FirstHistoryLemmas
 pub mod FormLemmas
+pub mod Forms
 pub mod HistoryTruth
+pub mod Lengths
+pub mod Marks
 pub mod MessageLemmas
+pub mod ToldServer
 pub mod TruthLemmas
+pub mod Parking
 pub mod ReplayLemmas
+pub mod RouteLemmas

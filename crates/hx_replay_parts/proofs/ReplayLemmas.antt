@@ -1,4 +1,4 @@
--- The replay of a script of the first form, part by part.
+-- The replay of a script of one exchange, part by part.
 use Rattle.std.proofs.Common.{◌≡◌, ℕ, ◌-◌, ◌<◌, ◌≤◌, Bool, true, false, cond, List, [], ◌++◌, length, drop, Option, Some, None, refl, sym, ap, subst, ◌∙◌, arith, inl, inr, ⊎_elim}
 use Rattle.hx_base.specs.declared.numbers.Millis.{Millis}
 use Rattle.hx_base.specs.declared.rules.PoolRules.{PoolRules}
@@ -11,7 +11,7 @@ use Rattle.hx_pool.specs.History.{marks_of}
 use Rattle.hx_pool.specs.SeatView.{About, History, IsOneHistory, StillKept}
 use Rattle.hx_pool.specs.Journal.{Journal, journal_from, RecountsMarks}
 use Rattle.hx_plain.specs.PlainSeat.{about_alone, IsUnused}
-use Rattle.hx_replay_parts.specs.FirstRun.{worker, server, first_rules}
+use Rattle.hx_replay_parts.specs.FirstRun.{worker, server}
 use Rattle.hx_replay_parts.specs.FirstHistory.{StandsAlone}
 use Rattle.hx_replay_parts.specs.FirstReplay.{BeginsAlone}
 use Rattle.std.proofs.lemmas.List.{length-append}
@@ -21,13 +21,14 @@ use Rattle.hx_link.specs.Told.{most_bytes}
 use Rattle.hx_link.specs.MemoryLinks.{MemoryLinkNow, new_link}
 use Rattle.hx_message.specs.Forwarded.{forwarded_request, forwarded_answer}
 use Rattle.hx_script.specs.declared.transcript.Transcript.{Transcript}
-use Rattle.hx_replay_parts.specs.declared.form.FirstScript.{FirstScript}
-use Rattle.hx_replay_parts.specs.FirstForm.{most_number}
+use Rattle.hx_replay_parts.specs.declared.form.Script.{Script}
+use Rattle.hx_replay_parts.specs.declared.route.Route.{Route}
+use Rattle.hx_replay_parts.specs.ConfigPart.{most_number}
 use Rattle.hx_replay_parts.specs.FirstMessages.{IsFirstAnswer}
 use Rattle.hx_replay_parts.specs.FirstPlans.{one_piece, client_plan, server_plan}
 use Rattle.hx_replay_parts.specs.FirstReplay.{IsScript, TellsRun, TellsScript}
 use Rattle.hx_replay_parts.specs.FirstRun.{TellsFirst}
-use Rattle.hx_replay_parts.specs.FirstHistory.{IsClosed}
+use Rattle.hx_replay_parts.specs.FirstHistory.{IsOver}
 use Rattle.hx_replay_parts.specs.LinkSteps.{HasPiece, IsOpen}
 use Rattle.hx_replay_parts.specs.Exchanges.{IsReady, AreExchanged}
 use Rattle.hx_replay_parts.proofs.MessageLemmas.{sent_is, gave_is}
@@ -46,13 +47,12 @@ nothing_yet a t n = record {
   inside = (omega (arith, ap (λ (x : Rattle.hx_base.specs.declared.numbers.ThreadNo.ThreadNo). x.0) t, n), omega (arith, n));
 }
 
-pub alone_begins : (h : History) (rules : PoolRules) (start : Millis) → h.about ≡ about_alone server rules start h.about.board → rules ≡ first_rules → IsUnused h → StandsAlone h []
-alone_begins h rules start about is unused =
+pub alone_begins : (h : History) (rules : PoolRules) (start : Millis) → h.about ≡ about_alone server rules start h.about.board → IsUnused h → StandsAlone h []
+alone_begins h rules start about unused =
     let thread : h.about.thread ≡ worker = ap (λ (a : About). a.thread) about in
     let threads : h.about.threads ≡ 1 = ap (λ (a : About). a.threads) about in
     record {
       thread = thread;
-      rules = ap (λ (a : About). a.rules) about ∙ is;
       threads = threads;
       server = ap (λ (a : About). a.server) about;
       mine = unused.mine;
@@ -60,11 +60,12 @@ alone_begins h rules start about is unused =
           (subst (λ (xs : List Note). IsOneHistory h.about [] xs) (sym unused.mine) (nothing_yet h.about thread threads));
     }
 
-pub begins_alone : (j : Journal) (h : History) → j.history ≡ h → j.stored ≡ [] → j.whole ≡ true → StandsAlone h [] → BeginsAlone j
-begins_alone j h same stored whole alone =
+pub begins_alone : (rules : PoolRules) (j : Journal) (h : History) → j.history ≡ h → j.stored ≡ [] → j.whole ≡ true → StandsAlone h [] → h.about.rules ≡ rules → BeginsAlone rules j
+begins_alone rules j h same stored whole alone is =
     let here : StandsAlone j.history [] = subst (λ (k : History). StandsAlone k []) (sym same) alone in
     record {
       alone = here;
+      rules_are = ap (λ (k : History). k.about.rules) same ∙ is;
       kept = ap (λ (b : Bool). cond b (Some (length (marks_of j.history.mine) - length j.stored)) None) whole
           ∙ ap (λ (xs : List Note). Some (length (marks_of xs) - length j.stored)) here.mine
           ∙ ap (λ (xs : List Entry). Some (0 - length xs)) stored;
@@ -126,9 +127,9 @@ new_open m p bytes after is piece = subst (λ (x : MemoryLinkNow). IsOpen x byte
   fed = refl;
 })
 
-pub are_ready : (s : FirstScript) (sent gave : List ℕ) (client server : MemoryLinkNow) (p q : Plan) (i : IsScript s sent gave) → client ≡ new_link p → p ≡ client_plan s.ask s.gave
-    → server ≡ new_link q → q ≡ server_plan s.answer s.sent → IsReady client server s.ask s.answer i.messages.asked i.messages.answered i.messages.body
-are_ready s sent gave client server p q i c cp d dp =
+pub are_ready : (line line' : ℕ) (s : Script) (sent gave : List ℕ) (client server : MemoryLinkNow) (p q : Plan) (i : IsScript s sent gave) → client ≡ new_link p → p ≡ client_plan line s.ask s.gave
+    → server ≡ new_link q → q ≡ server_plan line' s.answer s.sent → IsReady client server s.ask s.answer i.messages.asked i.messages.answered i.messages.body
+are_ready line line' s sent gave client server p q i c cp d dp =
     let m = i.messages in
     let sent' : sent ≡ forwarded_request m.asked = sent_is s.ask sent m.asked m.request m.sent_is in
     let gave' : gave ≡ forwarded_answer m.answered false ++ m.body = gave_is s.answer gave m.body m.answered m.first_answer m.gave_is in
@@ -154,16 +155,16 @@ are_ready s sent gave client server p q i c cp d dp =
       gave_fits = omega (arith, ap length (sym gave'), i.small.0);
     }
 
-pub script_told : (s : FirstScript) (client server : MemoryLinkNow) (client' server' : MemoryLinkNow) (closed : LinkState) (p q : Plan) (h : History) (what : What) (t : Transcript)
-    → client ≡ new_link p → p ≡ client_plan s.ask s.gave → server ≡ new_link q → q ≡ server_plan s.answer s.sent
-    → AreExchanged client server client' server' → what_of_link closed ≡ what_of_link server'.state → IsClosed h what
-    → TellsRun client'.state closed t → TellsScript s t
-script_told s client server client' server' closed p q h what t c cp d dp exchanged same ends tells sent gave i =
+pub script_told : (route : Route) (line line' : ℕ) (s : Script) (client server : MemoryLinkNow) (client' server' : MemoryLinkNow) (closed : LinkState) (p q : Plan) (h : History) (what : What) (t : Transcript)
+    → client ≡ new_link p → p ≡ client_plan line s.ask s.gave → server ≡ new_link q → q ≡ server_plan line' s.answer s.sent
+    → AreExchanged client server client' server' → what_of_link closed ≡ what_of_link server'.state → h.about.rules ≡ route.rules → IsOver h what
+    → TellsRun route client'.state closed t → TellsScript route s t
+script_told route line line' s client server client' server' closed p q h what t c cp d dp exchanged same rules ends tells sent gave i =
     let m = i.messages in
     let sent' : sent ≡ forwarded_request m.asked = sent_is s.ask sent m.asked m.request m.sent_is in
     let gave' : gave ≡ forwarded_answer m.answered false ++ m.body = gave_is s.answer gave m.body m.answered m.first_answer m.gave_is in
-    let carried = exchanged s.ask s.answer m.asked m.answered m.body (are_ready s sent gave client server p q i c cp d dp) in
+    let carried = exchanged s.ask s.answer m.asked m.answered m.body (are_ready line line' s sent gave client server p q i c cp d dp) in
     let bytes = same_bytes closed server'.state (forwarded_request m.asked) s.answer same carried.server_sent carried.server_taken in
-    let told : TellsFirst s.ask s.answer sent gave t =
+    let told : TellsFirst route s.ask s.answer sent gave t =
     tells s.ask s.answer sent gave carried.client_taken (carried.client_sent ∙ ap (λ (xs : List ℕ). Some xs) (sym gave')) bytes.1 (bytes.0 ∙ ap (λ (xs : List ℕ). Some xs) (sym sent')) in
-    (told, first_is_true s.ask s.answer sent gave t h what m told ends)
+    (told, first_is_true route s.ask s.answer sent gave t h what m told rules ends)

@@ -1,4 +1,4 @@
--- The transcript of a script of the first form is true.
+-- The transcript of a script of one exchange is true.
 use Rattle.std.proofs.Common.{◌≡◌, ℕ, ◌-◌, List, [], ◌∷◌, length, Bool, true, false, All, refl, sym, ap, subst, arith, ⊎_elim}
 use Rattle.std.specs.Prelude.{filter, codes, ◌||◌, ◌↔◌, ◌⊎◌, Contains}
 use Rattle.std.proofs.lemmas.List.{take_all}
@@ -27,9 +27,10 @@ use Rattle.hx_record.specs.declared.served.Told.{Told}
 use Rattle.hx_record.specs.declared.served.Told.TheVariants as told
 use Rattle.hx_script.specs.declared.transcript.ServerPart.{ServerPart}
 use Rattle.hx_script.specs.declared.transcript.Transcript.{Transcript}
+use Rattle.hx_replay_parts.specs.declared.route.Route.{Route}
 use Rattle.hx_replay_parts.specs.FirstMessages.{has_connection_field, IsFirstRequest, IsFirstAnswer, AreFirstMessages}
-use Rattle.hx_replay_parts.specs.FirstRun.{whole, first_server, first_carried, first_served, first_left, first_client, first_conn, TellsFirst}
-use Rattle.hx_replay_parts.specs.FirstHistory.{IsClosed}
+use Rattle.hx_replay_parts.specs.FirstRun.{whole, server_of, totals_under, first_carried, first_served, first_left, first_client, first_conn, TellsFirst}
+use Rattle.hx_replay_parts.specs.FirstHistory.{IsOver}
 use Rattle.hx_replay_parts.specs.TrueTranscript.{AreTrueServers, HasClient, HasConn, IsTrueRecord, IsTrueTranscript}
 use Rattle.hx_replay_parts.proofs.HistoryTruth.{true_server}
 
@@ -175,41 +176,41 @@ tiles_conn ask answer sent gave =
       order = (refl, refl, omega arith, refl, omega arith, tt);
     }
 
-has_client : (ask answer sent gave : List ℕ) (t : Transcript) → TellsFirst ask answer sent gave t → HasClient t (first_served ask answer sent gave) (first_client ask gave)
-has_client ask answer sent gave t tells = record {
+has_client : (route : Route) (ask answer sent gave : List ℕ) (t : Transcript) → TellsFirst route ask answer sent gave t → HasClient t (first_served ask answer sent gave) (first_client ask gave)
+has_client route ask answer sent gave t tells = record {
   there = subst (λ (cs : List ClientBytes). Contains cs (first_client ask gave)) (sym tells.clients) (holds_one (first_client ask gave));
   worker = refl;
   session = refl;
 }
 
-has_conn : (ask answer sent gave : List ℕ) (t : Transcript) → TellsFirst ask answer sent gave t → HasConn t (first_carried sent answer) (first_conn sent answer)
-has_conn ask answer sent gave t tells = record {
+has_conn : (route : Route) (ask answer sent gave : List ℕ) (t : Transcript) → TellsFirst route ask answer sent gave t → HasConn t (first_carried sent answer) (first_conn sent answer)
+has_conn route ask answer sent gave t tells = record {
   there = subst (λ (cs : List ConnBytes). Contains cs (first_conn sent answer)) (sym tells.conns) (holds_one (first_conn sent answer));
   server = refl;
   id = refl;
 }
 
-true_records : (ask answer sent gave : List ℕ) (t : Transcript) → AreFirstMessages ask answer sent gave → TellsFirst ask answer sent gave t
+true_records : (route : Route) (ask answer sent gave : List ℕ) (t : Transcript) → AreFirstMessages ask answer sent gave → TellsFirst route ask answer sent gave t
     → All (IsTrueRecord t (λ _ _. false)) (both_records ask answer sent gave)
-true_records ask answer sent gave t m tells =
+true_records route ask answer sent gave t m tells =
     All-cons (IsTrueRecord t (λ _ _. false)) (told.Served (first_served ask answer sent gave)) (told.Left (first_left ask) ∷ []) (
       first_client ask gave,
-      has_client ask answer sent gave t tells,
+      has_client route ask answer sent gave t tells,
       first_conn sent answer,
-      has_conn ask answer sent gave t tells,
+      has_conn route ask answer sent gave t tells,
       true_passed ask answer sent gave m,
     )
     (all_one (IsTrueRecord t (λ _ _. false)) (told.Left (first_left ask)) tt)
 
-pub first_is_true : (ask answer sent gave : List ℕ) (t : Transcript) (h : History) (what : What) → AreFirstMessages ask answer sent gave
-    → TellsFirst ask answer sent gave t → IsClosed h what → IsTrueTranscript t (λ _ _. false)
-first_is_true ask answer sent gave t h what m tells closed =
+pub first_is_true : (route : Route) (ask answer sent gave : List ℕ) (t : Transcript) (h : History) (what : What) → AreFirstMessages ask answer sent gave
+    → TellsFirst route ask answer sent gave t → h.about.rules ≡ route.rules → IsOver h what → IsTrueTranscript t (λ _ _. false)
+first_is_true route ask answer sent gave t h what m tells rules over =
     let client : TilesClient t.records (first_client ask gave) = subst (λ (rs : List Told). TilesClient rs (first_client ask gave)) (sym tells.records) (tiles_client ask answer sent gave) in
     let conn : TilesConn t.records (first_conn sent answer) = subst (λ (rs : List Told). TilesConn rs (first_conn sent answer)) (sym tells.records) (tiles_conn ask answer sent gave) in
     record {
       servers = subst (λ (ps : List ServerPart). AreTrueServers ps t.totals) (sym tells.servers)
-          (subst (λ (ss : List Totals). AreTrueServers (first_server ∷ []) ss) (sym tells.totals) (true_server h what closed, tt));
-      records = subst (λ (rs : List Told). All (IsTrueRecord t (λ _ _. false)) rs) (sym tells.records) (true_records ask answer sent gave t m tells);
+          (subst (λ (ss : List Totals). AreTrueServers (server_of route ∷ []) ss) (sym tells.totals) (true_server route h what rules over, tt));
+      records = subst (λ (rs : List Told). All (IsTrueRecord t (λ _ _. false)) rs) (sym tells.records) (true_records route ask answer sent gave t m tells);
       clients = subst (λ (cs : List ClientBytes). All (TilesClient t.records) cs) (sym tells.clients) (all_one (TilesClient t.records) (first_client ask gave) client);
       conns = subst (λ (cs : List ConnBytes). All (TilesConn t.records) cs) (sym tells.conns) (all_one (TilesConn t.records) (first_conn sent answer) conn);
     }

@@ -1,5 +1,5 @@
--- The history of a script of the first form, as far as it has come.
-use Rattle.std.specs.Prelude.{◌≡◌, true, false, List, [], ◌∷◌, ◌++◌, Some}
+-- The history of a script of one exchange, as far as it has come.
+use Rattle.std.specs.Prelude.{◌≡◌, ◌⊎◌, true, false, List, [], ◌∷◌, ◌++◌, Some}
 use Rattle.hx_base.specs.declared.what.What.{What}
 use Rattle.hx_base.specs.Shown.{Shown}
 use Rattle.hx_pool.specs.declared.entries.Entry.TheVariants.{Open, Park, Close, Up, Gate, SetGate}
@@ -9,12 +9,11 @@ use Rattle.hx_pool.specs.History.{plain}
 use Rattle.hx_pool.specs.SeatView.{History, StandsInOneHistory}
 use Rattle.hx_pool.specs.Causes.{AllLooks, caretaker}
 use Rattle.hx_pool.specs.Taking.{taking}
-use Rattle.hx_replay_parts.specs.FirstRun.{worker, session, server, conn, place, first_rules}
+use Rattle.hx_replay_parts.specs.FirstRun.{worker, session, server, conn, place, may_rest}
 
--- the seat is alone at a board of the form's server, and has made these entries
+-- the seat is alone at the server's board, and has made these entries
 pub record StandsAlone (h : History) (entries : List Note) : Type 0 where
   pub thread : h.about.thread ≡ worker
-  pub rules : h.about.rules ≡ first_rules
   pub threads : h.about.threads ≡ 1
   pub server : h.about.server ≡ server
   pub mine : h.mine ≡ entries
@@ -39,6 +38,13 @@ abbrev pub drained_notes : List Note → What → List Note → List Note
 drained_notes looks what more =
     draining_notes looks what ++ (more ++ taking worker caretaker false place (face_of conn 1) 1)
 
+-- the session closes its connection, and then the server drains
+abbrev pub left_notes : List Note
+left_notes = opened_notes ++ plain (Close worker session conn) ∷ []
+
+abbrev pub over_notes : List Note
+over_notes = left_notes ++ plain (SetGate worker true) ∷ []
+
 abbrev pub closed_notes : List Note → What → List Note → List Note
 closed_notes looks what more = drained_notes looks what more ++ plain (Close worker caretaker conn) ∷ []
 
@@ -47,6 +53,17 @@ pub record IsParked (h : History) (what : What) : Type 0 where
   pub looks : List Note
   pub looked : AllLooks worker looks
   pub alone : StandsAlone h (parked_notes looks what)
+
+-- the rules let the connection rest, and it does
+pub record Rests (h : History) (what : What) : Type 0 where
+  pub may : may_rest h.about.rules ≡ true
+  pub parked : IsParked h what
+
+-- the rules let none rest, and the session has its connection
+pub record IsBack (h : History) (v back : Shown) : Type 0 where
+  pub may_not : may_rest h.about.rules ≡ false
+  pub same : back ≡ v
+  pub alone : StandsAlone h opened_notes
 
 -- the server drains, and nothing was drained yet
 pub record IsDraining (h : History) (what : What) : Type 0 where
@@ -70,6 +87,12 @@ pub record IsClosed (h : History) (what : What) : Type 0 where
   pub more : List Note
   pub looked_more : AllLooks worker more
   pub alone : StandsAlone h (closed_notes looks what more)
+
+-- the connection rested and is closed where the rules let it rest, and else its session closed it
+abbrev pub IsOver : History → What → Type 0
+IsOver h what =
+    (may_rest h.about.rules ≡ true) × IsClosed h what
+    ⊎ (may_rest h.about.rules ≡ false) × StandsAlone h over_notes
 
 -- the value is the connection after its first exchange, and its link tells this
 abbrev pub first_shown : What → Shown

@@ -6,10 +6,9 @@ use Rattle.hx_link.specs.declared.plan.Plan.{Plan}
 abbrev pub one_piece : ℕ → List ℕ → List Piece
 one_piece after bytes = record { at = record { 0 = 0 }; after = after; bytes = bytes } ∷ []
 
--- the client's line is the script's seventh
-abbrev pub client_plan : List ℕ → ℕ → Plan
-client_plan ask gave = record {
-  line = 7;
+abbrev pub client_plan : ℕ → List ℕ → ℕ → Plan
+client_plan line ask gave = record {
+  line = line;
   server = None;
   refuse = false;
   pieces = one_piece 0 ask;
@@ -18,10 +17,9 @@ client_plan ask gave = record {
   fail = None;
 }
 
--- the server's line is the script's tenth
-abbrev pub server_plan : List ℕ → ℕ → Plan
-server_plan answer sent = record {
-  line = 10;
+abbrev pub server_plan : ℕ → List ℕ → ℕ → Plan
+server_plan line answer sent = record {
+  line = line;
   server = Some (record { 0 = 0 });
   refuse = false;
   pieces = one_piece sent answer;

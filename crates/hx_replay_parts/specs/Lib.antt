@@ -1,7 +1,7 @@
-pub mod FirstForm
+pub mod Replayable
 pub mod FirstMessages
 pub mod FirstRun
-pub mod FirstText
+pub mod ScriptText
 pub mod Replays
 pub mod TrueTranscript
 pub mod FirstHistory
@@ -14,3 +14,5 @@ pub mod Exchanges
 pub mod FirstTruth
 pub mod FirstPlans
 pub mod FirstReplay
+pub mod ConfigPart
+pub mod Routes

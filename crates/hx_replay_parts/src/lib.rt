@@ -1,11 +1,14 @@
 //! Replays of scripts: private parts of the program.
 #![tactic(auto)]
 
+mod bytes;
 mod exchange;
 mod form;
 mod messages;
+mod opening;
 mod plans;
 mod replay;
+mod route;
 mod server_conn;
 mod settle;
 mod steps;
@@ -13,4 +16,5 @@ mod tell;
 mod texts;
 
 pub use form::MOST_SCRIPT;
-pub use replay::replay_text;
+pub use replay::{Replay, faults_exclude, replay_text};
+pub use route::Route;

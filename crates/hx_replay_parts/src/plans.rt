@@ -1,15 +1,10 @@
-//! The plans of the two links of a script of the first form.
+//! The plans of the two links of a script of one exchange.
 ghost use Rattle.std.specs.Prelude.{◌≡◌, ◌∷◌, [], IfOk};
 ghost use Rattle.hx_replay_parts.specs.FirstPlans.{client_plan, server_plan};
 
 use hx_base::{Bytes, Items, Millis, NoMemory, ServerNo};
 use hx_link::{Piece, Plan};
 use std::alloc::Global;
-
-/// The script's line of the client, and that of the server.
-const CLIENT_LINE: u32 = 7;
-
-const SERVER_LINE: u32 = 10;
 
 fn one_piece(alloc: Global, after: u64, bytes: Bytes) -> Result<Items<Piece>, NoMemory>
     ensures { IfOk result (λ pieces. pieces ≡ record { at = record { 0 = 0 }; after = after; bytes = bytes } ∷ []) }
@@ -23,11 +18,16 @@ fn one_piece(alloc: Global, after: u64, bytes: Bytes) -> Result<Items<Piece>, No
 }
 
 /// The client's request is there, and the client ends once so many bytes were given to it.
-pub(crate) fn plan_client(alloc: Global, ask: Bytes, gave: usize) -> Result<Plan, NoMemory>
-    ensures { IfOk result (λ plan. plan ≡ client_plan ask gave) }
+pub(crate) fn plan_client(
+    alloc: Global,
+    line: u32,
+    ask: Bytes,
+    gave: usize,
+) -> Result<Plan, NoMemory>
+    ensures { IfOk result (λ plan. plan ≡ client_plan line ask gave) }
 {
     Ok(Plan {
-        line: CLIENT_LINE,
+        line,
         server: None,
         refuse: false,
         pieces: one_piece(alloc, 0, ask)?,
@@ -38,11 +38,16 @@ pub(crate) fn plan_client(alloc: Global, ask: Bytes, gave: usize) -> Result<Plan
 }
 
 /// The server's answer is there once so many bytes were sent to it.
-pub(crate) fn plan_server(alloc: Global, answer: Bytes, sent: usize) -> Result<Plan, NoMemory>
-    ensures { IfOk result (λ plan. plan ≡ server_plan answer sent) }
+pub(crate) fn plan_server(
+    alloc: Global,
+    line: u32,
+    answer: Bytes,
+    sent: usize,
+) -> Result<Plan, NoMemory>
+    ensures { IfOk result (λ plan. plan ≡ server_plan line answer sent) }
 {
     Ok(Plan {
-        line: SERVER_LINE,
+        line,
         server: Some(ServerNo(0)),
         refuse: false,
         pieces: one_piece(alloc, sent as u64, answer)?,

@@ -1,17 +1,18 @@
 //! The replay of a script.
-ghost use Rattle.std.specs.Prelude.{◌≡◌, IfOk, MatchOption};
-ghost use Rattle.hx_replay_parts.specs.FirstRun.{first_rules};
+ghost use Rattle.std.specs.Prelude.{◌≡◌, IfOk};
 ghost use Rattle.hx_base.specs.declared.what.What.{What};
-ghost use Rattle.hx_replay_parts.specs.FirstReplay.{BeginsAlone, HasClosed, TellsRun, HasMessages, TellsScript};
-ghost use Rattle.hx_replay_parts.specs.Replays.{Replays, NoForm};
+ghost use Rattle.hx_replay_parts.specs.FirstReplay.{BeginsAlone, HasEnded, TellsRun, HasMessages, TellsScript};
+ghost use Rattle.hx_replay_parts.specs.Routes.{IsNamed};
+ghost use Rattle.hx_replay_parts.specs.Replays.{IsReplayOf, FaultsExclude};
 
 use crate::exchange::exchange;
-use crate::form::{FirstScript, read_form};
+use crate::form::{Form, Script, read_form};
 use crate::plans::{plan_client, plan_server};
+use crate::route::Route;
 use crate::server_conn::ServerConn;
 use crate::settle::{open_first, settle};
 use crate::tell::{FirstRun, tell_first};
-use hx_base::{Items, Millis, Mode, NoMemory, PoolRules, ServerNo};
+use hx_base::{Items, Millis, NoMemory, PoolRules, ServerNo};
 use hx_link::MemoryLink;
 use hx_plain::PlainSeat;
 use hx_pool::{JournalSeat, Seat};
@@ -23,25 +24,25 @@ type FirstSeat = JournalSeat<PlainSeat<ServerConn>>;
 
 const SERVER: ServerNo = ServerNo(0);
 
-/// How many marks the run makes.
+/// How many marks the run makes at most.
 const MARKS: usize = 5;
 
-fn rules() -> PoolRules
-    ensures { result ≡ first_rules }
-{
-    PoolRules {
-        mode: Mode::Always,
-        max: None,
-        low: 0,
-        delay: Millis(5000),
-    }
+/// What a text is replayed to.
+#[derive(Drop)]
+pub enum Replay {
+    /// The text of the transcript.
+    Text(Vec<u8>),
+    /// The first fault of the script's configuration: its line there, counted from 1, and the number of its rule.
+    ConfigFault { line: u32, rule: u8 },
+    /// No form of script that is built.
+    Unbuilt,
 }
 
-/// A seat with room for the marks of the run.
-fn first_seat(alloc: Global) -> Result<FirstSeat, NoMemory>
-    ensures { IfOk result BeginsAlone }
+/// A seat under the rules, with room for the marks of the run.
+fn first_seat(alloc: Global, rules: PoolRules) -> Result<FirstSeat, NoMemory>
+    ensures { IfOk result (BeginsAlone rules) }
 {
-    let seat = PlainSeat::new(alloc, SERVER, rules(), Millis(0))?;
+    let seat = PlainSeat::new(alloc, SERVER, rules, Millis(0))?;
     let mut journal = JournalSeat::new(alloc, seat);
     journal.reserve(MARKS)?;
     Ok(journal)
@@ -50,12 +51,14 @@ fn first_seat(alloc: Global) -> Result<FirstSeat, NoMemory>
 /// What is told of a run whose connection is closed.
 fn tell(
     alloc: Global,
+    route: Route,
     client: MemoryLink,
     conn: ServerConn,
     seat: &FirstSeat,
 ) -> Result<Transcript, NoMemory>
-    requires { (what : What) × HasClosed seat.now what }
-    ensures { IfOk result (TellsRun client.state conn.link.state) }
+    requires named { IsNamed route }
+    requires ended { (what : What) × HasEnded route.rules seat.now what }
+    ensures { IfOk result (TellsRun route client.state conn.link.state) }
 {
     if !seat.is_whole() {
         return Err(NoMemory);
@@ -69,17 +72,20 @@ fn tell(
         answer: server.taken,
         gave: client.sent,
     };
-    tell_first(alloc, run, marks, seat.totals())
+    tell_first(alloc, run, route, marks, seat.totals())
 }
 
-/// The transcript of a script of the first form.
-fn replay_first(alloc: Global, script: FirstScript) -> Result<Transcript, NoMemory>
-    requires { HasMessages script }
-    ensures { IfOk result (TellsScript script) }
+/// The transcript of a script of one exchange.
+fn replay_script(alloc: Global, route: Route, script: Script) -> Result<Transcript, NoMemory>
+    requires named { IsNamed route }
+    requires messages { HasMessages script }
+    ensures { IfOk result (TellsScript route script) }
 {
-    let mut client = MemoryLink::new(plan_client(alloc, script.ask, script.gave)?);
-    let mut server = MemoryLink::new(plan_server(alloc, script.answer, script.sent)?);
-    let mut seat = first_seat(alloc)?;
+    let plan = plan_client(alloc, script.client_line, script.ask, script.gave)?;
+    let mut client = MemoryLink::new(plan);
+    let plan = plan_server(alloc, script.server_line, script.answer, script.sent)?;
+    let mut server = MemoryLink::new(plan);
+    let mut seat = first_seat(alloc, route.rules)?;
     let id = open_first::<ServerConn, FirstSeat>(&mut seat);
     exchange(alloc, &mut client, &mut server)?;
     let conn = ServerConn {
@@ -89,21 +95,28 @@ fn replay_first(alloc: Global, script: FirstScript) -> Result<Transcript, NoMemo
         uses: 1,
     };
     let closed = settle(&mut seat, conn);
-    tell(alloc, client, closed, &seat)
+    tell(alloc, route, client, closed, &seat)
 }
 
-/// The text of the transcript, where the bytes are a script of a form that is built.
+/// What the bytes are replayed to: the transcript of a script of one exchange, the first fault of a script's
+/// configuration, or that they are no form that is built.
 ///
 /// # Errors
 /// `NoMemory` for want of memory.
-pub fn replay_text(alloc: Global, bytes: &[u8]) -> Result<Option<Vec<u8>>, NoMemory>
-    ensures { IfOk result (λ o. MatchOption o (NoForm bytes.now) (λ text. Replays bytes.now text.items)) }
+pub fn replay_text(alloc: Global, bytes: &[u8]) -> Result<Replay, NoMemory>
+    ensures { IfOk result (IsReplayOf bytes.now) }
 {
     match read_form(alloc, bytes)? {
-        None => Ok(None),
-        Some(script) => {
-            let told = replay_first(alloc, script)?;
-            Ok(Some(print_transcript(alloc, &told)?))
+        Form::Unbuilt => Ok(Replay::Unbuilt),
+        Form::ConfigFault { line, rule } => Ok(Replay::ConfigFault { line, rule }),
+        Form::OneExchange(route, script) => {
+            let told = replay_script(alloc, route, script)?;
+            Ok(Replay::Text(print_transcript(alloc, &told)?))
         }
     }
 }
+
+/// A script that is replayed has a configuration without a fault.
+pub fn faults_exclude()
+    ensures { FaultsExclude }
+{}

@@ -1,12 +1,11 @@
-//! The seat's part of a script of the first form.
-ghost use Rattle.std.specs.Prelude.{◌≡◌, []};
-ghost use Rattle.hx_pool.specs.declared.entries.Note.{Note};
+//! The seat's part of a script of one exchange.
+ghost use Rattle.std.specs.Prelude.{◌≡◌, [], MatchOption};
 ghost use Rattle.hx_pool.specs.SeatView.{StillKept};
 ghost use Rattle.hx_base.specs.declared.what.What.{What};
 ghost use Rattle.hx_replay_parts.specs.FirstRun.{conn};
-ghost use Rattle.hx_replay_parts.specs.FirstHistory.{StandsAlone, opened_notes, IsParked, IsDraining, IsDrained, IsClosed, first_shown};
+ghost use Rattle.hx_replay_parts.specs.FirstHistory.{StandsAlone, opened_notes, over_notes, Rests, IsBack, IsParked, IsDraining, IsClosed, IsOver, first_shown};
 
-use hx_base::{ConnId, Faced, SessionNo};
+use hx_base::{ConnId, Faced, Mode, SessionNo};
 use hx_pool::Seat;
 
 /// The one session.
@@ -19,6 +18,7 @@ pub(crate) fn open_first<V: Faced, S: Seat<V>>(seat: &mut S) -> ConnId
     requires { StandsAlone (S.history seat.old) [] }
     ensures id { result ≡ conn }
     ensures opened { StandsAlone (S.history seat.new) opened_notes }
+    ensures about { (S.history seat.new).about ≡ (S.history seat.old).about }
     ensures kept { StillKept (S.kept_from seat.old) (S.kept_from seat.new) }
 {
     match seat.open_new(SESSION) {
@@ -27,22 +27,28 @@ pub(crate) fn open_first<V: Faced, S: Seat<V>>(seat: &mut S) -> ConnId
     }
 }
 
-/// Lets the connection rest after its first exchange.
-fn park_first<V: Faced, S: Seat<V>>(seat: &mut S, v: V)
+/// Lets the connection rest after its first exchange, or hands it back where the rules let none rest.
+fn rest<V: Faced, S: Seat<V>>(seat: &mut S, v: V) -> Option<V>
     requires opened { StandsAlone (S.history seat.old) opened_notes }
     requires value { V.shows v ≡ first_shown (V.shows v).what }
-    ensures parked { IsParked (S.history seat.new) (V.shows v).what }
+    ensures about { (S.history seat.new).about ≡ (S.history seat.old).about }
+    ensures rests { MatchOption result (Rests (S.history seat.new) (V.shows v).what)
+        (λ back. IsBack (S.history seat.new) (V.shows v) (V.shows back)) }
     ensures kept { StillKept (S.kept_from seat.old) (S.kept_from seat.new) }
 {
+    if seat.rules().mode == Mode::Never {
+        return Some(v);
+    }
     match seat.park(SESSION, v) {
-        Ok(_) => {}
-        Err(_) => unreachable!(),
+        Ok(_) => None,
+        Err(unparked) => Some(unparked.v),
     }
 }
 
-/// Sets the server draining.
+/// Sets the server draining behind a connection that rests.
 fn begin_drain<V: Faced, S: Seat<V>>(seat: &mut S)
     ensures draining { (what : What) → IsParked (S.history seat.old) what → IsDraining (S.history seat.new) what }
+    ensures about { (S.history seat.new).about ≡ (S.history seat.old).about }
     ensures kept { StillKept (S.kept_from seat.old) (S.kept_from seat.new) }
 {
     seat.set_drain();
@@ -53,6 +59,7 @@ fn drain_first<V: Faced, S: Seat<V>>(seat: &mut S) -> V
     requires { (what : What) × IsDraining (S.history seat.old) what }
     ensures value { (what : What) → IsDraining (S.history seat.old) what → V.shows result ≡ first_shown what }
     ensures closed { (what : What) → IsDraining (S.history seat.old) what → IsClosed (S.history seat.new) what }
+    ensures about { (S.history seat.new).about ≡ (S.history seat.old).about }
     ensures kept { StillKept (S.kept_from seat.old) (S.kept_from seat.new) }
 {
     match seat.drain_next() {
@@ -64,15 +71,35 @@ fn drain_first<V: Faced, S: Seat<V>>(seat: &mut S) -> V
     }
 }
 
-/// The connection rests after its exchange, and is closed once the server drains.
+/// The session closes the connection that doesn't rest, and then the server drains.
+fn leave<V: Faced, S: Seat<V>>(seat: &mut S, id: ConnId)
+    requires opened { StandsAlone (S.history seat.old) opened_notes }
+    requires first { id ≡ conn }
+    ensures over { StandsAlone (S.history seat.new) over_notes }
+    ensures about { (S.history seat.new).about ≡ (S.history seat.old).about }
+    ensures kept { StillKept (S.kept_from seat.old) (S.kept_from seat.new) }
+{
+    seat.close(SESSION, id);
+    seat.set_drain();
+}
+
+/// After its exchange the connection rests and is closed once the server drains, or is closed where none may rest.
 pub(crate) fn settle<V: Faced, S: Seat<V>>(seat: &mut S, v: V) -> V
     requires opened { StandsAlone (S.history seat.old) opened_notes }
     requires value { V.shows v ≡ first_shown (V.shows v).what }
     ensures value { V.shows result ≡ V.shows v }
-    ensures closed { IsClosed (S.history seat.new) (V.shows v).what }
+    ensures over { IsOver (S.history seat.new) (V.shows v).what }
+    ensures about { (S.history seat.new).about ≡ (S.history seat.old).about }
     ensures kept { StillKept (S.kept_from seat.old) (S.kept_from seat.new) }
 {
-    park_first(seat, v);
-    begin_drain::<V, S>(seat);
-    drain_first(seat)
+    match rest(seat, v) {
+        None => {
+            begin_drain::<V, S>(seat);
+            drain_first(seat)
+        }
+        Some(v) => {
+            leave::<V, S>(seat, v.face().id);
+            v
+        }
+    }
 }

@@ -1,13 +1,13 @@
-//! What the replay of a script of the first form tells.
+//! What the replay of a script of one exchange tells.
 ghost use Rattle.std.specs.Prelude.{◌≡◌, ◌∷◌, [], IfOk};
 ghost use Rattle.hx_record.specs.declared.served.Told.TheVariants as told;
-ghost use Rattle.hx_replay_parts.specs.FirstRun.{whole, first_marks, first_server, first_totals, first_carried, first_served, first_left, TellsFirst};
+ghost use Rattle.hx_replay_parts.specs.Routes.{IsNamed};
+ghost use Rattle.hx_replay_parts.specs.FirstRun.{whole, marks_under, totals_under, server_of, first_carried, first_served, first_left, TellsFirst};
 ghost use Rattle.hx_replay_parts.specs.FirstTruth.{FirstIsTrue};
 
+use crate::route::Route;
 use crate::settle::SESSION;
-use hx_base::{
-    Bytes, ConnId, Items, Millis, Mode, Name, NoMemory, PoolRules, ServerNo, Span, ThreadNo, Totals,
-};
+use hx_base::{Bytes, ConnId, Items, NoMemory, ServerNo, Span, ThreadNo, Totals};
 use hx_pool::Entry;
 use hx_record::{Carried, ClientBytes, ConnBytes, Kind, Left, LeftCause, Served, Told};
 use hx_script::{ServerPart, Transcript};
@@ -28,28 +28,17 @@ pub(crate) struct FirstRun {
     pub gave: Bytes,
 }
 
-fn name(alloc: Global, text: &[u8]) -> Result<Name, NoMemory>
-    ensures { IfOk result (λ name. name ≡ text.now) }
+/// The server of the route, with the marks of its history.
+fn server_part(route: Route, marks: Items<Entry>) -> ServerPart
+    requires { marks ≡ marks_under route.rules }
+    ensures { result ≡ server_of route }
 {
-    Ok(Items::from_vec(Vec::from_slice(alloc, text)?))
-}
-
-/// The server, with the marks of its history.
-fn server_part(alloc: Global, marks: Items<Entry>) -> Result<ServerPart, NoMemory>
-    requires { marks ≡ first_marks }
-    ensures { IfOk result (λ part. part ≡ first_server) }
-{
-    Ok(ServerPart {
-        back: name(alloc, b"web")?,
-        server: name(alloc, b"s1")?,
-        rules: PoolRules {
-            mode: Mode::Always,
-            max: None,
-            low: 0,
-            delay: Millis(5000),
-        },
+    ServerPart {
+        back: route.back,
+        server: route.server,
+        rules: route.rules,
         marks,
-    })
+    }
 }
 
 /// The range of all bytes.
@@ -110,22 +99,24 @@ fn records(alloc: Global, run: &FirstRun) -> Result<Items<Told>, NoMemory>
     Ok(Items::from_vec(records))
 }
 
-/// The transcript of the exchange, the marks of its server's history and its totals.
+/// The transcript of the exchange over the route, the marks of its server's history and its totals.
 ///
 /// # Errors
 /// `NoMemory` for want of memory.
 pub(crate) fn tell_first(
     alloc: Global,
     run: FirstRun,
+    route: Route,
     marks: Items<Entry>,
     totals: Totals,
 ) -> Result<Transcript, NoMemory>
-    requires marks { marks ≡ first_marks }
-    requires totals { totals ≡ first_totals }
-    ensures { IfOk result (λ t. TellsFirst run.ask run.answer run.sent run.gave t) }
+    requires named { IsNamed route }
+    requires marks { marks ≡ marks_under route.rules }
+    requires totals { totals ≡ totals_under route.rules }
+    ensures { IfOk result (TellsFirst route run.ask run.answer run.sent run.gave) }
 {
     let records = records(alloc, &run)?;
-    let part = server_part(alloc, marks)?;
+    let part = server_part(route, marks);
     let client = ClientBytes {
         worker: WORKER,
         session: SESSION,

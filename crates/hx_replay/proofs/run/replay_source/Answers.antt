@@ -1,5 +1,5 @@
 use Rattle.std.proofs.Common.{arith, ℕ, List, subst}
-use Rattle.hx_replay.specs.Endings.{IsReplayOf}
+use Rattle.hx_replay.specs.Endings.{IsEndingOf}
 use Rattle.hx_replay.proofs.RunLemmas.{replay_has_cause}
 use Rattle.hx_replay.proofs.run.replay_source.Goals as goal
 
@@ -7,4 +7,4 @@ pub returns-in-Ok : goal.returns-in-Ok
 returns-in-Ok g c =
     replay_has_cause _ _ c.in-Ok.bytes.items c.replay.result c.in-Ok.ensures.reads
     (omega (arith, c.if-len-gt-MOST_SCRIPT.false, c.len.ensures))
-    (subst (λ (text : List ℕ). IsReplayOf text c.replay.result) c.as_slice.ensures.value c.replay.ensures)
+    (subst (λ (text : List ℕ). IsEndingOf text c.replay.result) c.as_slice.ensures.value c.replay.ensures)

@@ -1,4 +1,4 @@
-use Rattle.hx_replay_parts.proofs.FormLemmas.{have_lengths, no_lengths}
+use Rattle.hx_replay_parts.proofs.Lengths.{have_lengths, no_lengths}
 use Rattle.hx_replay_parts.proofs.form.first_lengths.Goals as goal
 
 pub returns-then-are_numbers : goal.returns-then-are_numbers

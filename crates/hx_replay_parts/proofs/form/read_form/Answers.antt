@@ -1,22 +1,31 @@
-use Rattle.std.proofs.Common.{List, ℕ, sym, ◌∙◌, subst}
-use Rattle.hx_replay_parts.specs.FormParts.{NoMessages, HaveLengths}
-use Rattle.hx_replay_parts.proofs.FormLemmas.{none_of, some_of, no_form_parts, no_form_messages, no_form_between}
+use Rattle.std.proofs.Common.{◌≤◌, length, arith}
+use Rattle.hx_config.specs.Views.{meaning}
+use Rattle.hx_replay_parts.proofs.ConfigLemmas.{count_small}
+use Rattle.hx_replay_parts.proofs.ExchangeLemmas.{if_ok_map}
+use Rattle.hx_replay_parts.proofs.Forms.{no_front, form_behind}
 use Rattle.hx_replay_parts.proofs.form.read_form.Goals as goal
 
+pub overflow_cast-count : goal.overflow_cast-count
+overflow_cast-count c =
+    let few = count_small c.args.text.now c.in-Some.config.now c.in-Some.lines.now c.in-Some.count c.in-Some.ensures in
+    omega (arith, few, c.if-text-gt-MOST_SCRIPT.false)
+
+pub overflow_add-count : goal.overflow_add-count
+overflow_add-count c =
+    let few = count_small c.args.text.now c.in-Some.config.now c.in-Some.lines.now c.in-Some.count c.in-Some.ensures in
+    omega (arith, few, c.if-text-gt-MOST_SCRIPT.false)
+
+pub exchange_behind-requires-clause-early : goal.exchange_behind-requires-clause-early
+exchange_behind-requires-clause-early c =
+    let few = count_small c.args.text.now c.in-Some.config.now c.in-Some.lines.now c.in-Some.count c.in-Some.ensures in
+    omega (arith, few, c.if-text-gt-MOST_SCRIPT.false)
+
 pub returns-in_default : goal.returns-in_default
-returns-in_default c = no_form_parts c.args.text.now (none_of c.in_ok-ask.field-0 _ _ c.in_ok-ask.ensures c.in_default.is)
+returns-in_default c = no_front c.args.text.now c.in_default.ensures
 
-pub returns-in_default-first_lengths : goal.returns-in_default-first_lengths
-returns-in_default-first_lengths c =
-    no_form_messages c.args.text.now c.in-Some.ask.items c.in-Some.middle.now c.in-Some.answer.items
-    (some_of c.in_ok-ask.field-0 _ _ _ c.in_ok-ask.ensures c.in-Some.is)
-    (subst (λ (a : List ℕ). NoMessages c.in-Some.ask.items a) c.as_slice-2.ensures.value
-    (subst (λ (q : List ℕ). NoMessages q c.as_slice-2.result.now) c.as_slice.ensures.value c.in_default-first_lengths.ensures))
-
-pub returns-else-is_same : goal.returns-else-is_same
-returns-else-is_same c =
-    no_form_between c.args.text.now c.in-Some.ask.items c.in-Some.middle.now c.in-Some.answer.items c.in-Some-first_lengths.sent c.in-Some-first_lengths.gave
-    (some_of c.in_ok-ask.field-0 _ _ _ c.in_ok-ask.ensures c.in-Some.is)
-    (subst (λ (a : List ℕ). HaveLengths c.in-Some.ask.items a c.in-Some-first_lengths.sent c.in-Some-first_lengths.gave) c.as_slice-2.ensures.value
-    (subst (λ (q : List ℕ). HaveLengths q c.as_slice-2.result.now c.in-Some-first_lengths.sent c.in-Some-first_lengths.gave) c.as_slice.ensures.value c.in-Some-first_lengths.ensures))
-    (λ same. let yes' = c.is_same.ensures.1 (same ∙ sym c.in_ok-expected.ensures ∙ sym c.as_slice-3.ensures.value) in absurd cc)
+pub returns-in-Ok : goal.returns-in-Ok
+returns-in-Ok c =
+    let short : length c.args.text.now ≤ 1048576 = omega (arith, c.if-text-gt-MOST_SCRIPT.false) in
+    if_ok_map c.exchange_behind.result _ _
+    (λ f is. form_behind c.args.text.now c.in-Some.count c.in-Some.config.now c.in-Some.lines.now
+    (meaning c.in-Ok.config) f short c.in-Some.ensures c.in-Ok.ensures.meant is) c.exchange_behind.ensures

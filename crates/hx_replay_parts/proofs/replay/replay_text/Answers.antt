@@ -1,19 +1,22 @@
-use Rattle.hx_replay_parts.proofs.FormLemmas.{some_of}
+use Rattle.std.proofs.Common.{subst}
+use Rattle.hx_replay_parts.specs.FormParts.{IsFormOf, IsForm}
 use Rattle.hx_replay_parts.proofs.replay.replay_text.Goals as goal
 
-pub returns-in_ok-print_transcript-in-Some : goal.returns-in_ok-print_transcript-in-Some
-returns-in_ok-print_transcript-in-Some c =
-    let form = some_of c.in_ok-read_form.field-0 c.in-Some.script _ _ c.in_ok-read_form.ensures c.in-Some.is in
-    let both = c.in_ok-told-in-Some.ensures form.0 form.1
-    (record { messages = form.2.messages; sent_length = form.3; gave_length = form.4; small = form.2.numbers }) in
+pub returns-in_ok-print_transcript-in-OneExchange : goal.returns-in_ok-print_transcript-in-OneExchange
+returns-in_ok-print_transcript-in-OneExchange c =
+    let form : IsFormOf c.args.bytes.now c.in-OneExchange.route c.in-OneExchange.script =
+    subst (IsForm c.args.bytes.now) c.in-OneExchange.is c.in_ok-read_form.ensures in
+    let both = c.in_ok-told-in-OneExchange.ensures form.sent form.gave
+    (record { messages = form.form.exchange.messages; sent_length = form.sent_length; gave_length = form.gave_length; small = form.form.exchange.numbers }) in
     record {
-      ask = c.in-Some.script.ask;
-      answer = c.in-Some.script.answer;
-      sent = form.0;
-      gave = form.1;
-      form = form.2;
-      transcript = c.in_ok-told-in-Some.told;
+      route = c.in-OneExchange.route;
+      ask = c.in-OneExchange.script.ask;
+      answer = c.in-OneExchange.script.answer;
+      sent = form.sent;
+      gave = form.gave;
+      form = form.form;
+      transcript = c.in_ok-told-in-OneExchange.told;
       tells = both.0;
       is_true = both.1;
-      spells = c.in_ok-print_transcript-in-Some.ensures;
+      spells = c.in_ok-print_transcript-in-OneExchange.ensures;
     }

@@ -1,4 +1,4 @@
-use Rattle.hx_replay_parts.proofs.FirstHistoryLemmas.{drain_begins}
+use Rattle.hx_replay_parts.proofs.Draining.{drain_begins}
 use Rattle.hx_replay_parts.proofs.settle.begin_drain.Goals as goal
 
 pub returns-clause-draining : goal.returns-clause-draining

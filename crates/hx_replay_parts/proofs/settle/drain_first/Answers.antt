@@ -4,7 +4,7 @@ use Rattle.hx_pool.specs.Causes.{caretaker}
 use Rattle.hx_pool.specs.Opening.{HasConn, Closes}
 use Rattle.hx_base.specs.Shown.{Shown}
 use Rattle.hx_base.specs.declared.numbers.Face.{Face}
-use Rattle.hx_replay_parts.proofs.FirstHistoryLemmas.{drain_takes, drain_first_takes, close_ends, caretaker_has}
+use Rattle.hx_replay_parts.proofs.Draining.{drain_takes, drain_first_takes, close_ends, caretaker_has}
 use Rattle.hx_replay_parts.proofs.settle.drain_first.Goals as goal
 
 pub close-requires : goal.close-requires

@@ -1,4 +1,4 @@
-use Rattle.hx_replay_parts.proofs.FirstHistoryLemmas.{open_alone}
+use Rattle.hx_replay_parts.proofs.Alone.{open_alone}
 use Rattle.hx_replay_parts.proofs.settle.open_first.Goals as goal
 
 pub returns-clause-id : goal.returns-clause-id

@@ -1,8 +1,26 @@
-use Rattle.std.proofs.Common.{◌∙◌, sym}
+use Rattle.std.proofs.Common.{◌≡◌, true, ◌∙◌, sym, ap, inl, inr, subst}
+use Rattle.hx_base.specs.Shown.{Shown}
+use Rattle.hx_pool.specs.SeatView.{About}
+use Rattle.hx_replay_parts.specs.FirstRun.{may_rest}
 use Rattle.hx_replay_parts.proofs.settle.settle.Goals as goal
 
 pub drain_first-requires : goal.drain_first-requires
-drain_first-requires g c = (_, c.begin_drain.ensures.draining _ c.park_first.ensures.parked)
+drain_first-requires g c = (_, c.begin_drain.ensures.draining _ c.in-None.ensures.rests.parked)
 
-pub returns-clause-value : goal.returns-clause-value
-returns-clause-value g c = c.drain_first.ensures.value _ (c.begin_drain.ensures.draining _ c.park_first.ensures.parked) ∙ sym c.requires.value
+pub returns-in-None-clause-value : goal.returns-in-None-clause-value
+returns-in-None-clause-value g c =
+    c.drain_first.ensures.value _ (c.begin_drain.ensures.draining _ c.in-None.ensures.rests.parked) ∙ sym c.requires.value
+
+pub returns-in-None-clause-over : goal.returns-in-None-clause-over
+returns-in-None-clause-over g c =
+    inl (
+      ap (λ (a : About). may_rest a.rules) (c.drain_first.ensures.about ∙ c.begin_drain.ensures.about) ∙ c.in-None.ensures.rests.may,
+      c.drain_first.ensures.closed _ (c.begin_drain.ensures.draining _ c.in-None.ensures.rests.parked),
+    )
+
+pub returns-in-Some-clause-value : goal.returns-in-Some-clause-value
+returns-in-Some-clause-value g c = c.in-Some.ensures.rests.same
+
+pub returns-in-Some-clause-over : goal.returns-in-Some-clause-over
+returns-in-Some-clause-over g c =
+    inr (ap (λ (a : About). may_rest a.rules) c.leave.ensures.about ∙ c.in-Some.ensures.rests.may_not, c.leave.ensures.over)
