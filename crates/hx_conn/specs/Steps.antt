@@ -1,5 +1,5 @@
 -- What a caller learns of each call on a connection.
-use Rattle.std.specs.Prelude.{◌≡◌, ℕ, ◌+◌, ◌-◌, ◌≤◌, min, Bool, true, false, ◌||◌, List, [], ◌++◌, length, take, drop, Option, Some, None, IfSome}
+use Rattle.std.specs.Prelude.{◌≡◌, ℕ, ◌+◌, ◌≤◌, Bool, true, false, ◌||◌, List, Option, Some, None, IfSome}
 use Rattle.hx_base.specs.declared.numbers.ConnId.{ConnId}
 use Rattle.hx_message.specs.declared.MethodKind.{MethodKind}
 use Rattle.hx_message.specs.Message.{IsWholeAnswer, Persists}
@@ -11,11 +11,11 @@ use Rattle.hx_link.specs.Told.{LinkState, CountsOne}
 use Rattle.hx_link.specs.Sources.{GotFits}
 use Rattle.hx_link.specs.Links.{LinkReads, LinkWrites}
 use Rattle.hx_link.specs.Nets.{NetState, OnlyFaults}
-use Rattle.hx_link.specs.Pipes.{PipeNow, pipe}
+use Rattle.hx_link.specs.Pipes.{PipeNow}
+use Rattle.hx_link.specs.Moves.{ReadsInto}
 use Rattle.hx_conn.specs.declared.causes.Death.{Death}
 use Rattle.hx_conn.specs.declared.causes.Death.TheVariants.{AttachFault}
 use Rattle.hx_conn.specs.declared.causes.RestCause.{RestCause}
-use Rattle.hx_conn.specs.declared.exchange.AnswerEnd.{AnswerEnd}
 use Rattle.hx_conn.specs.declared.exchange.Exchange.{Exchange}
 use Rattle.hx_conn.specs.Causes.{death_code, death_of, rest_code, rest_cause}
 use Rattle.hx_conn.specs.Conns.{RestedNow, BusyNow, answered}
@@ -88,27 +88,10 @@ abbrev pub WritesAsk : BusyNow → BusyNow → ℕ → Put → List ℕ → Type
 WritesAsk old new now result bytes =
     (new ≡ after_call old new.link (is_failed_put result)) × LinkWrites old.link new.link now result bytes
 
--- the most bytes of one read
-abbrev pub most_read : ℕ
-most_read = 18432
-
--- how many bytes a read asks for, where the pipe has so much room
-abbrev pub read_room : PipeNow → ℕ
-read_room p = min (p.capacity - length p.bytes) most_read
-
--- how many bytes a read gave
-abbrev pub got_count : Got → ℕ
-got_count (got.Bytes n) = n
-got_count got.NotYet = 0
-got_count got.End = 0
-got_count got.Failed = 0
-
 -- one read of the link; what it gave stands at the pipe's end
 pub record ReadsAnswer (old new : BusyNow) (now : ℕ) (before after : PipeNow) (result : Got) : Type 0 where
-  pub into : List ℕ
   pub busy : new ≡ after_call old new.link (is_failed_got result)
-  pub reads : LinkReads old.link new.link now result into
-  pub gains : after ≡ pipe (before.bytes ++ take (got_count result) into) before.capacity
+  pub read : ReadsInto old.link new.link now before after result
 
 -- the first n bytes taken in the exchange are a whole answer, and the connection persists after it where that is said;
 -- one that runs to the end is whole where the link told its end after it

@@ -3,7 +3,8 @@ ghost use Rattle.std.specs.Prelude.{◌≡◌, ◌+◌, ◌<◌, ◌≤◌, ◌|
 ghost use Rattle.hx_link.specs.Sources.{GotFits, PutFits, KeepsEnd};
 ghost use Rattle.hx_link.specs.Nets.{NetDetaches};
 ghost use Rattle.hx_conn.specs.Conns.{IsRested, IsBusy, AskIsWhole};
-ghost use Rattle.hx_conn.specs.Steps.{got_count, is_failed_got, WritesAsk, ReadsAnswer, read_room, AnswerIsWhole};
+ghost use Rattle.hx_link.specs.Moves.{got_count, read_room};
+ghost use Rattle.hx_conn.specs.Steps.{is_failed_got, WritesAsk, ReadsAnswer, AnswerIsWhole};
 ghost use Rattle.hx_conn.specs.Views.{busy_now, KeepsBusy};
 ghost use Rattle.hx_conn.specs.Steps.{new_exchange, ask_ended, answer_ended, RestsOk, RestsNot};
 
@@ -12,12 +13,9 @@ use crate::exchange::{AnswerEnd, Exchange};
 use crate::not_rested::NotRested;
 use crate::rested::Rested;
 use hx_base::{ConnId, Millis, ServerNo, Span};
-use hx_link::{Got, Link, Net, Pipe, Put};
+use hx_link::{Got, Link, Net, Pipe, Put, read_into};
 use hx_message::MethodKind;
 use std::marker::Model;
-
-/// The most bytes of one read.
-const MOST_READ: usize = 18_432;
 
 /// How many bytes a read gave.
 fn count_of(got: Got) -> usize
@@ -166,13 +164,8 @@ impl<L: Link> Busy<L> {
         ensures reads { ReadsAnswer self.old self.new now.0 into.old into.new result }
         ensures ended { KeepsEnd self.old.link.told_end result }
     {
-        let mut buffer = [0; MOST_READ];
-        let room = into.room().min(MOST_READ);
-        let chunk = &mut buffer[..room];
-        let got = self.conn.link.read(now, chunk);
-        let n = count_of(got);
-        into.fill(&chunk[..n]);
-        self.conn.taken += n as u64;
+        let got = read_into(&mut self.conn.link, now, into);
+        self.conn.taken += count_of(got) as u64;
         self.exchange.failed = has_failed(self.exchange.failed, got);
         got
     }
