@@ -5,9 +5,9 @@ use Rattle.std.specs.List.{list_all}
 use Rattle.std.proofs.lemmas.List.{append_cancel_left, length-append, length-drop}
 use Rattle.std.proofs.lemmas.Bool.{and_parts}
 use Rattle.std.proofs.lemmas.List.Elements.{All-append, All-from_get_or}
-use Rattle.hx_script.specs.ByteText.{BeginsQuoted, NoQuoted}
+use Rattle.hx_script_parts.specs.ByteText.{BeginsQuoted, NoQuoted}
 use Rattle.hx_script.specs.PrintedForm.{is_name_byte, IsName}
-use Rattle.hx_script.proofs.ByteTextLemmas.{same_byte_text}
+use Rattle.hx_script_parts.proofs.ByteTextLemmas.{same_byte_text}
 use Rattle.hx_replay_parts.specs.ConfigPart.{most_number}
 use Rattle.hx_replay_parts.specs.ScriptText.{client_words, end_words, server_words, between, IsScriptOf}
 use Rattle.hx_replay_parts.specs.Replayable.{HasExchange}
