@@ -1,10 +1,8 @@
 -- What each call keeps of a connection.
-use Rattle.std.proofs.Common.{◌≡◌, ℕ, ◌+◌, ◌-◌, ◌^◌, ◌<◌, ◌≤◌, List, [], ◌∷◌, ◌++◌, length, take, drop, Option, Some, None, refl, sym, ap, ◌∙◌, subst, arith, rules, add-one}
-use Rattle.std.specs.Prelude.{Bool, true, false, ◌||◌, not, IsSome, IfSome, option_map, suc, zero, min, is_none, nat_lt, ◌==◌}
+use Rattle.std.proofs.Common.{◌≡◌, ℕ, ◌+◌, ◌^◌, ◌<◌, ◌≤◌, List, [], ◌∷◌, ◌++◌, length, take, drop, Option, Some, None, refl, sym, ap, ◌∙◌, subst, arith, add-one}
+use Rattle.std.specs.Prelude.{Bool, true, false, ◌||◌, not, IsSome, IfSome, option_map, suc, is_none, ◌==◌}
 use Rattle.std.proofs.lemmas.Bool.{ltb-false, eqb-false}
 use Rattle.std.proofs.lemmas.List.{take_all, take-append-drop, take-append-le, drop-append-le, length-drop}
-use Rattle.hx_base.specs.declared.numbers.ConnId.{ConnId}
-use Rattle.hx_base.specs.declared.numbers.ServerNo.{ServerNo}
 use Rattle.hx_message.specs.declared.MethodKind.{MethodKind}
 use Rattle.hx_message.specs.Message.{IsRequest, IsAnswer, IsWholeAnswer, Persists}
 use Rattle.hx_message.specs.Exchanges.{AreExchanges}
@@ -17,9 +15,9 @@ use Rattle.hx_conn.specs.declared.causes.RestCause.{RestCause}
 use Rattle.hx_conn.specs.declared.causes.RestCause.TheVariants.{AskOpen, AnswerOpen, Leftover, NoPersistence, UsesSpent, Faulted}
 use Rattle.hx_conn.specs.declared.exchange.AnswerEnd.{AnswerEnd}
 use Rattle.hx_conn.specs.declared.exchange.Exchange.{Exchange}
-use Rattle.hx_conn.specs.Causes.{death_of, causes, first_of, rest_cause, has_leftover, is_persistent}
-use Rattle.hx_conn.specs.Conns.{WhereTold, RestedNow, IsRested, BusyNow, IsBusy, AskIsWhole, answered}
-use Rattle.hx_conn.specs.Steps.{begun, new_exchange, after_call, is_failed_got, got_count, AnswerIsWhole, answer_ended, refusal, rested_of}
+use Rattle.hx_conn.specs.Causes.{death_of, first_of, rest_cause, has_leftover, is_persistent}
+use Rattle.hx_conn.specs.Conns.{WhereTold, RestedNow, IsRested, BusyNow, IsBusy, answered}
+use Rattle.hx_conn.specs.Steps.{begun, after_call, is_failed_got, got_count, AnswerIsWhole, answer_ended, refusal, rested_of}
 
 -- what holds of a told value holds of it in another way
 if_some : {A : Type 0} (P Q : A → Type 0) (o : Option A) → ((x : A) → P x → Q x) → IfSome o P → IfSome o Q

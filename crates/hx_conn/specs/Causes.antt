@@ -1,5 +1,5 @@
 -- Why a connection is dead, and why a busy one may not rest.
-use Rattle.std.specs.Prelude.{ℕ, ◌+◌, Bool, true, false, not, List, [], ◌∷◌, Option, Some, None, is_none, if◌then◌else◌, nat_lt, ◌==◌}
+use Rattle.std.specs.Prelude.{ℕ, ◌+◌, Bool, false, not, List, [], ◌∷◌, Option, Some, None, is_none, if◌then◌else◌, nat_lt, ◌==◌}
 use Rattle.hx_link.specs.declared.answers.Got.{Got}
 use Rattle.hx_link.specs.declared.answers.Got.TheVariants as got
 use Rattle.hx_conn.specs.declared.causes.Death.{Death}

@@ -1,5 +1,5 @@
 -- What a caller learns of each call on a connection.
-use Rattle.std.specs.Prelude.{◌≡◌, ℕ, ◌+◌, ◌-◌, ◌≤◌, min, Bool, true, false, ◌||◌, List, [], ◌++◌, length, take, drop, Option, Some, None, IfSome}
+use Rattle.std.specs.Prelude.{◌≡◌, ℕ, ◌+◌, ◌-◌, ◌≤◌, min, Bool, true, false, ◌||◌, List, ◌++◌, length, take, Option, Some, None, IfSome}
 use Rattle.hx_base.specs.declared.numbers.ConnId.{ConnId}
 use Rattle.hx_message.specs.declared.MethodKind.{MethodKind}
 use Rattle.hx_message.specs.Message.{IsWholeAnswer, Persists}
@@ -15,7 +15,6 @@ use Rattle.hx_link.specs.Pipes.{PipeNow, pipe}
 use Rattle.hx_conn.specs.declared.causes.Death.{Death}
 use Rattle.hx_conn.specs.declared.causes.Death.TheVariants.{AttachFault}
 use Rattle.hx_conn.specs.declared.causes.RestCause.{RestCause}
-use Rattle.hx_conn.specs.declared.exchange.AnswerEnd.{AnswerEnd}
 use Rattle.hx_conn.specs.declared.exchange.Exchange.{Exchange}
 use Rattle.hx_conn.specs.Causes.{death_code, death_of, rest_code, rest_cause}
 use Rattle.hx_conn.specs.Conns.{RestedNow, BusyNow, answered}

@@ -1,6 +1,6 @@
-use Rattle.std.proofs.Common.{◌≡◌, ◌+◌, ◌∙◌, ap, sym, subst}
+use Rattle.std.proofs.Common.{◌+◌, ◌∙◌, ap, sym, subst}
 use Rattle.std.specs.Prelude.{Bool, ℕ}
-use Rattle.hx_conn.specs.Conns.{BusyNow, IsBusy}
+use Rattle.hx_conn.specs.Conns.{IsBusy}
 use Rattle.hx_conn.specs.Views.{busy_now}
 use Rattle.hx_conn.proofs.ConnLemmas.{read_keeps, count_taken, count_sent}
 use Rattle.hx_conn.proofs.busy.Busy.read_answer.Goals as goal
