@@ -229,8 +229,16 @@ lines_few xs = few_with_tail (is_ended xs) (feeds_in xs) (length xs) (feeds_few 
 
 pub count_small : (text config rest : List ℕ) (count : ℕ) → HasConfig text count config rest → count ≤ length text
 count_small text config rest count h =
-    omega (arith, h.begins.counted, lines_few config, ap length h.opens, ap length h.begins.is, length-append config rest,
-    length-append first_words (decimal count ++ 10 ∷ h.below), length-append (decimal count) (10 ∷ h.below))
+    omega (
+      arith,
+      h.begins.counted,
+      lines_few config,
+      ap length h.opens,
+      ap length h.begins.is,
+      length-append config rest,
+      length-append first_words (decimal count ++ 10 ∷ h.below),
+      length-append (decimal count) (10 ∷ h.below),
+    )
 
 -- ---- one byte more is read
 

@@ -213,8 +213,6 @@ value_then : {A : Type 0} (q : Result A Rule) (g : A → Reading) → ((a : A) �
 value_then (Ok a) g h = h a
 value_then (Err d) g h = tt
 
-
-
 -- ---- readings of a server
 
 choice_room : (c : Result Chosen Rule) (b : Bool) (g : Chosen → Reading) → ((d : Chosen) → b ≡ false → Named (g d)) → KeepsNames (c >>= λ d. means.unless b TooMany >>= λ t. Ok (g d))
