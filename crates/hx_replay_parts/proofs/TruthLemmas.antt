@@ -29,7 +29,7 @@ use Rattle.hx_script.specs.declared.transcript.ServerPart.{ServerPart}
 use Rattle.hx_script.specs.declared.transcript.Transcript.{Transcript}
 use Rattle.hx_replay_parts.specs.declared.route.Route.{Route}
 use Rattle.hx_replay_parts.specs.FirstMessages.{has_connection_field, IsFirstRequest, IsFirstAnswer, AreFirstMessages}
-use Rattle.hx_replay_parts.specs.FirstRun.{whole, server_of, totals_under, first_carried, first_served, first_left, first_client, first_conn, TellsExchange}
+use Rattle.hx_replay_parts.specs.FirstRun.{whole, server_of, first_carried, first_served, first_left, first_client, first_conn, TellsExchange}
 use Rattle.hx_replay_parts.specs.FirstHistory.{IsOver}
 use Rattle.hx_replay_parts.specs.TrueTranscript.{AreTrueServers, HasClient, HasConn, IsTrueRecord, IsTrueTranscript}
 use Rattle.hx_replay_parts.proofs.HistoryTruth.{true_server}
