@@ -3,5 +3,4 @@ pub mod LinkLines
 pub mod MarkLines
 pub mod Printed
 pub mod PrintedForm
-pub mod QuotedReading
 pub mod RecordLines

@@ -5,7 +5,6 @@ mod link_lines;
 mod mark_lines;
 mod pieces;
 mod print;
-mod quoted;
 mod record_lines;
 #[cfg(test)]
 mod tests;
@@ -14,6 +13,8 @@ mod transcript;
 pub use hx_record::{
     Carried, ClientBytes, ConnBytes, CutCause, Kind, Left, LeftCause, Served, Told,
 };
+pub use hx_script_parts::{
+    ClientLine, Script, TextFault, byte_text_at_front, one_byte_text, read_quoted, read_script,
+};
 pub use print::print_transcript;
-pub use quoted::{one_byte_text, read_quoted};
 pub use transcript::{ServerPart, Transcript};
