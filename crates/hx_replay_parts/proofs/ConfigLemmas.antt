@@ -1,14 +1,14 @@
 -- The front of a script is one in one way, and is found.
-use Rattle.std.proofs.Common.{◌≡◌, ◌≢◌, ℕ, zero, suc, ◌+◌, ◌<◌, ◌≤◌, ◌^◌, Bool, true, false, cond, List, [], ◌∷◌, ◌++◌, ◌⊎◌, length, take, drop, get_or, Result, Ok, Err, refl, sym, ap, subst, ◌∙◌, arith, inl, inr, ⊎_elim, drop-cons}
-use Rattle.std.specs.Prelude.{decimal, ◌==◌, if◌then◌else◌}
+use Rattle.std.proofs.Common.{◌≡◌, ◌≢◌, ℕ, zero, suc, ◌+◌, ◌<◌, ◌≤◌, Bool, true, false, cond, List, [], ◌∷◌, ◌++◌, ◌⊎◌, length, take, drop, get_or, Result, Ok, Err, refl, sym, ap, subst, ◌∙◌, arith, inl, inr, ⊎_elim, drop-cons}
+use Rattle.std.specs.Prelude.{decimal, ◌==◌}
 use Rattle.std.specs.Str.{IsUtf8}
 use Rattle.std.specs.Str.Parse.{ParsesUnsigned}
 use Rattle.std.proofs.lemmas.Bool.{cases_Bool, eq-eqb}
 use Rattle.std.proofs.lemmas.Fmt.{parse-decimal, decimal_injective}
 use Rattle.std.proofs.lemmas.List.{append_cancel_left, append-nil, length-append, length-drop, take-append-drop, take_all}
 use Rattle.std.proofs.lemmas.Str.{IsUtf8-from_ascii}
-use Rattle.hx_replay_parts.specs.ConfigPart.{most_number, is_ended, feeds_in, lines_in, BeginsLines, first_words, HasConfig, NoConfig}
-use Rattle.hx_replay_parts.specs.FormParts.{Lacks, IsBefore, IsNumber, NoNumber, HasCount, NoCount, AreLines, NoLines}
+use Rattle.hx_replay_parts.specs.ConfigPart.{most_number, is_ended, feeds_in, lines_in, first_words, HasConfig, NoConfig}
+use Rattle.hx_replay_parts.specs.FormParts.{IsBefore, IsNumber, NoNumber, HasCount, NoCount, NoLines}
 use Rattle.hx_replay_parts.proofs.Marks.{digits_lack, digits_ascii, split_at_mark, before_mark}
 
 not_eqb : (a b : ℕ) → (a ≡ b → ⊥) → (a == b) ≡ false
@@ -229,8 +229,16 @@ lines_few xs = few_with_tail (is_ended xs) (feeds_in xs) (length xs) (feeds_few 
 
 pub count_small : (text config rest : List ℕ) (count : ℕ) → HasConfig text count config rest → count ≤ length text
 count_small text config rest count h =
-    omega (arith, h.begins.counted, lines_few config, ap length h.opens, ap length h.begins.is, length-append config rest,
-    length-append first_words (decimal count ++ 10 ∷ h.below), length-append (decimal count) (10 ∷ h.below))
+    omega (
+      arith,
+      h.begins.counted,
+      lines_few config,
+      ap length h.opens,
+      ap length h.begins.is,
+      length-append config rest,
+      length-append first_words (decimal count ++ 10 ∷ h.below),
+      length-append (decimal count) (10 ∷ h.below),
+    )
 
 -- ---- one byte more is read
 

@@ -1,4 +1,4 @@
--- The exchange of the first form over its links.
+-- The one exchange over its links.
 use Rattle.std.proofs.Common.{◌≡◌, ℕ, ◌+◌, ◌-◌, ◌<◌, ◌≤◌, List, [], ◌∷◌, ◌++◌, length, take, drop, false, refl, sym, ap, subst, ◌∙◌, arith, inl, inr, ⊎_elim, Ok, Err, Result}
 use Rattle.std.specs.Prelude.{IfOk, codes, Some}
 use Rattle.std.specs.List.{flat_map}

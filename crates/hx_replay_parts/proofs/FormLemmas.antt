@@ -1,13 +1,13 @@
 -- The parts of the lines behind a configuration are unique, and are read.
-use Rattle.std.proofs.Common.{◌≡◌, ◌≢◌, ℕ, ◌+◌, ◌<◌, ◌≤◌, ◌-◌, List, [], ◌∷◌, ◌++◌, ◌⊎◌, length, take, drop, get_or, refl, sym, ap, subst, ◌∙◌, arith, rules, zero, suc, true, false}
+use Rattle.std.proofs.Common.{◌≡◌, ◌≢◌, ℕ, ◌<◌, ◌≤◌, List, [], ◌∷◌, ◌++◌, ◌⊎◌, length, take, drop, get_or, sym, ap, subst, ◌∙◌, arith, rules, zero, suc, true, false}
 use Rattle.std.specs.Prelude.{decimal, codes, Option, Some, None, MatchOption}
 use Rattle.std.specs.List.{list_all}
-use Rattle.std.proofs.lemmas.List.{append_cancel_left, length-append, length-drop}
+use Rattle.std.proofs.lemmas.List.{append_cancel_left}
 use Rattle.std.proofs.lemmas.Bool.{and_parts}
 use Rattle.std.proofs.lemmas.List.Elements.{All-append, All-from_get_or}
-use Rattle.hx_script.specs.ByteText.{BeginsQuoted, NoQuoted}
+use Rattle.hx_script_parts.specs.ByteText.{BeginsQuoted, NoQuoted}
 use Rattle.hx_script.specs.PrintedForm.{is_name_byte, IsName}
-use Rattle.hx_script.proofs.ByteTextLemmas.{same_byte_text}
+use Rattle.hx_script_parts.proofs.ByteTextLemmas.{same_byte_text}
 use Rattle.hx_replay_parts.specs.ConfigPart.{most_number}
 use Rattle.hx_replay_parts.specs.ScriptText.{client_words, end_words, server_words, between, IsScriptOf}
 use Rattle.hx_replay_parts.specs.Replayable.{HasExchange}

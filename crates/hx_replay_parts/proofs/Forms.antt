@@ -5,8 +5,8 @@ use Rattle.hx_config.specs.declared.fault.ConfigFault.TheVariants.{At}
 use Rattle.hx_config.specs.Faults.{IsFaultOf}
 use Rattle.hx_config.specs.Meaning.{Meaning, meaning_of}
 use Rattle.hx_replay_parts.specs.ConfigPart.{HasConfig, NoConfig}
-use Rattle.hx_replay_parts.specs.FormParts.{NoExchange, IsFormOf, IsFormBehind, IsForm}
-use Rattle.hx_replay_parts.specs.Replayable.{most_script, HasExchange, IsReplayable, HasConfigFault, IsUnbuiltScript}
+use Rattle.hx_replay_parts.specs.FormParts.{NoExchange, IsFormBehind, IsForm}
+use Rattle.hx_replay_parts.specs.Replayable.{most_script, HasExchange, HasConfigFault, IsUnbuiltScript}
 use Rattle.hx_replay_parts.specs.Replays.{FaultsExclude}
 use Rattle.hx_replay_parts.specs.Routes.{HasRoute}
 use Rattle.hx_replay_parts.specs.declared.form.Form.{Form}

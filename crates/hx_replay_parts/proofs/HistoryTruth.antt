@@ -19,7 +19,7 @@ use Rattle.hx_pool.specs.Causes.{AllLooks, caretaker}
 use Rattle.hx_pool.specs.Taking.{taking}
 use Rattle.hx_pool.proofs.Histories.{marks_of-append}
 use Rattle.hx_pool.proofs.Calls.{looks_marks}
-use Rattle.hx_replay_parts.specs.FirstRun.{worker, session, conn, place, resting_marks, leaving_marks, marks_under, resting_totals, leaving_totals, totals_under, may_rest, server_of}
+use Rattle.hx_replay_parts.specs.FirstRun.{worker, session, conn, place, resting_marks, leaving_marks, marks_under, resting_totals, leaving_totals, totals_under, server_of}
 use Rattle.hx_replay_parts.specs.FirstHistory.{opened_notes, parking_notes, closed_notes, over_notes, StandsAlone, IsClosed, IsOver}
 use Rattle.hx_replay_parts.specs.TrueTranscript.{IsTrueServer}
 use Rattle.hx_replay_parts.proofs.Alone.{alone_seen}

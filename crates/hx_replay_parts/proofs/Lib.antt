@@ -1,6 +1,7 @@
 pub mod Alone
 pub mod ConfigLemmas
 pub mod ConfigNames
+pub mod ConfigReading
 pub mod Draining
 pub mod ExchangeLemmas
 pub mod FormLemmas

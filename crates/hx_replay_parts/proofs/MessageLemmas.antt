@@ -1,4 +1,4 @@
--- The messages of the first form, by the ranges of their heads and by the grammar.
+-- The two messages, by the ranges of their heads and by the grammar.
 use Rattle.std.proofs.Common.{◌≡◌, ℕ, zero, suc, ◌-◌, ◌≤◌, List, [], ◌∷◌, ◌++◌, length, take, drop, map, false, refl, sym, ap, subst, ◌∙◌, arith, All, Ok}
 use Rattle.std.proofs.lemmas.List.{take_all, take-append-drop, drop_all, length-drop, length-take, length-map, get_or-map, append-nil}
 use Rattle.std.proofs.lemmas.List.Elements.{All-map}
@@ -103,7 +103,7 @@ take_append_more (suc n) (x ∷ xs) ys le =
     let less : suc n - suc (length xs) ≡ n - length xs = omega arith in
     rw less (ap (λ (zs : List ℕ). x ∷ zs) (take_append_more n xs ys (omega arith)))
 
--- an answer of the first form has its head among the first bytes
+-- such an answer has its head among the first bytes
 pub answer_at_front : (bytes : List ℕ) (k : ResponseHead) (body : List ℕ) → IsFirstAnswer bytes k body → ReadsResponse (front bytes) k (take (16384 - length (print_response k)) body)
 answer_at_front bytes k body first =
     (first.reads.0, ap front first.reads.1 ∙ take_append_more 16384 (print_response k) body first.short)

@@ -1,34 +1,25 @@
 -- A park of the one connection succeeds where the rules let it rest, and else hands it back.
-use Rattle.std.proofs.Common.{◌≡◌, ℕ, zero, suc, ◌<◌, eqb, Bool, true, false, cond, List, [], ◌∷◌, ◌++◌, Option, Some, None, refl, sym, ap, ◌∙◌, subst, arith, inl, inr, ⊎_elim, eq-eqb, append_assoc}
-use Rattle.std.specs.Prelude.{IfSome}
-use Rattle.std.proofs.lemmas.List.{append_cancel_left, append-nil}
+use Rattle.std.proofs.Common.{◌≡◌, ℕ, zero, suc, ◌<◌, Bool, true, false, List, [], ◌∷◌, ◌++◌, Option, Some, None, refl, sym, ap, ◌∙◌, subst, arith, inl, inr, ⊎_elim}
 use Rattle.hx_base.specs.declared.numbers.ThreadNo.{ThreadNo}
-use Rattle.hx_base.specs.declared.numbers.ConnId.{ConnId}
 use Rattle.hx_base.specs.declared.numbers.PlaceNo.{PlaceNo}
 use Rattle.hx_base.specs.declared.numbers.Face.{Face}
 use Rattle.hx_base.specs.declared.rules.Mode.TheVariants as mode
 use Rattle.hx_base.specs.declared.rules.PoolRules.{PoolRules}
-use Rattle.hx_base.specs.declared.what.What.{What}
 use Rattle.hx_base.specs.Shown.{Shown}
-use Rattle.hx_pool.specs.declared.entries.Found.{Found}
-use Rattle.hx_pool.specs.declared.entries.Found.TheVariants.{Resting}
-use Rattle.hx_pool.specs.declared.entries.Entry.{Entry}
-use Rattle.hx_pool.specs.declared.entries.Entry.TheVariants.{Open, Park, Take, Free, Close, Look, Up, Down, Count, Gate, SetGate, Round}
+use Rattle.hx_pool.specs.declared.entries.Entry.TheVariants.{Close, Up, Down, Gate, SetGate}
 use Rattle.hx_pool.specs.declared.entries.Note.{Note}
 use Rattle.hx_pool.specs.declared.refusals.NoPark.{NoPark}
 use Rattle.hx_pool.specs.declared.refusals.NoPark.TheVariants.{Never, NoneKept, RowFull, Draining, PoolFull}
-use Rattle.hx_pool.specs.Table.{Table, Spot, Vacant, Holds, Leaves, empty_table, spot_at, spot_no, found_of, face_of, after, after_entry, Needs}
-use Rattle.hx_pool.specs.History.{plain, thread_of, is_by, own_of, table_from, table_after, EachStep, MeetsNeeds, IsLegal, what_of}
-use Rattle.hx_pool.specs.SeatView.{About, History, AllBelow, Makes, Calls}
-use Rattle.hx_pool.specs.Causes.{Among, AllLooks, ShowsTaken, IsTakeAt, IsCovered, AllCovered, place_of, nth_place, caretaker}
+use Rattle.hx_pool.specs.Table.{Table}
+use Rattle.hx_pool.specs.History.{plain, EachStep, MeetsNeeds}
+use Rattle.hx_pool.specs.SeatView.{About, History, Makes, Calls}
+use Rattle.hx_pool.specs.Causes.{AllLooks, place_of}
 use Rattle.hx_pool.specs.Opening.{SetsDrain, HasConn, Closes}
 use Rattle.hx_pool.specs.Parking.{parked, gated, Settles, Parks, FindsRowFull, FindsDraining, TakesBack, RefusesPark}
-use Rattle.hx_pool.specs.Taking.{taken, taking}
-use Rattle.hx_pool.specs.Drain.{since_from, since_drain, DrainsOne, DrainsNone}
-use Rattle.hx_pool.proofs.Histories.{table_from-append, EachStep-first, EachStep-second, since_from-append}
-use Rattle.hx_pool.proofs.Calls.{has_taken}
+use Rattle.hx_pool.specs.Taking.{taking}
+use Rattle.hx_pool.proofs.Histories.{EachStep-first}
 use Rattle.hx_replay_parts.specs.FirstRun.{worker, session, conn, place}
-use Rattle.hx_replay_parts.specs.FirstHistory.{StandsAlone, opened_notes, parking_notes, parked_notes, draining_notes, drained_notes, IsParked, IsDraining, IsDrained, IsClosed, first_shown}
+use Rattle.hx_replay_parts.specs.FirstHistory.{StandsAlone, opened_notes, parked_notes, IsParked, first_shown}
 use Rattle.std.specs.Prelude.{◌&&◌, not, ◌==◌, ◌⊎◌}
 use Rattle.std.proofs.lemmas.Bool.{cases_Bool}
 use Rattle.hx_base.specs.declared.rules.Mode.{Mode}

@@ -27,7 +27,7 @@ use Rattle.hx_replay_parts.specs.ConfigPart.{most_number}
 use Rattle.hx_replay_parts.specs.FirstMessages.{IsFirstAnswer}
 use Rattle.hx_replay_parts.specs.FirstPlans.{one_piece, client_plan, server_plan}
 use Rattle.hx_replay_parts.specs.FirstReplay.{IsScript, TellsRun, TellsScript}
-use Rattle.hx_replay_parts.specs.FirstRun.{TellsFirst}
+use Rattle.hx_replay_parts.specs.FirstRun.{TellsExchange}
 use Rattle.hx_replay_parts.specs.FirstHistory.{IsOver}
 use Rattle.hx_replay_parts.specs.LinkSteps.{HasPiece, IsOpen}
 use Rattle.hx_replay_parts.specs.Exchanges.{IsReady, AreExchanged}
@@ -165,6 +165,6 @@ script_told route line line' s client server client' server' closed p q h what t
     let gave' : gave ≡ forwarded_answer m.answered false ++ m.body = gave_is s.answer gave m.body m.answered m.first_answer m.gave_is in
     let carried = exchanged s.ask s.answer m.asked m.answered m.body (are_ready line line' s sent gave client server p q i c cp d dp) in
     let bytes = same_bytes closed server'.state (forwarded_request m.asked) s.answer same carried.server_sent carried.server_taken in
-    let told : TellsFirst route s.ask s.answer sent gave t =
+    let told : TellsExchange route s.ask s.answer sent gave t =
     tells s.ask s.answer sent gave carried.client_taken (carried.client_sent ∙ ap (λ (xs : List ℕ). Some xs) (sym gave')) bytes.1 (bytes.0 ∙ ap (λ (xs : List ℕ). Some xs) (sym sent')) in
     (told, first_is_true route s.ask s.answer sent gave t h what m told rules ends)

@@ -1,6 +1,5 @@
 -- A configuration has one route or none, and its names are names.
-use Rattle.std.proofs.Common.{◌≡◌, ℕ, ◌<◌, ◌≤◌, Bool, true, false, List, [], ◌∷◌, length, Ok, refl, sym, ap, subst, ◌∙◌, arith}
-use Rattle.std.specs.Prelude.{◌&&◌}
+use Rattle.std.proofs.Common.{◌≡◌, ℕ, true, List, [], ◌∷◌, Ok, refl, sym, ap, subst, ◌∙◌, arith}
 use Rattle.std.specs.List.{list_all}
 use Rattle.std.proofs.lemmas.Bool.{and_parts, and_from}
 use Rattle.std.proofs.lemmas.Bool.Decides.{nat_tests}
@@ -12,7 +11,8 @@ use Rattle.hx_config.specs.Meaning.{Meaning, meaning_of}
 use Rattle.hx_script.specs.PrintedForm.{is_name_byte, IsName}
 use Rattle.hx_replay_parts.specs.Routes.{route_by, HasRoute, IsNamed}
 use Rattle.hx_replay_parts.specs.declared.route.Route.{Route}
-use Rattle.hx_replay_parts.proofs.ConfigNames.{IsGoodName, backs_are_good}
+use Rattle.hx_replay_parts.proofs.ConfigNames.{IsGoodName, GoodServers}
+use Rattle.hx_replay_parts.proofs.ConfigReading.{backs_are_good}
 
 byte_of_name : (b : ℕ) → config.is_name_byte b ≡ true → is_name_byte b ≡ true
 byte_of_name b e = grind (arith, nat_tests)
@@ -31,7 +31,7 @@ pub route_named : (text : List ℕ) (m : Meaning) (r : Route) → meaning_of tex
 route_named text m r is h =
     let good = backs_are_good text m is h.back [] h.backs in
     let back : IsName h.back.name = name_is h.back.name good.0 in
-    let server : IsName h.server.name = name_is h.server.name (subst (λ (ss : List Server). Rattle.hx_replay_parts.proofs.ConfigNames.GoodServers ss) h.servers good.1).0 in
+    let server : IsName h.server.name = name_is h.server.name (subst (λ (ss : List Server). GoodServers ss) h.servers good.1).0 in
     subst IsNamed (sym h.is) (record { back = back; server = server })
 
 pub one_route : (m : Meaning) (r s : Route) → HasRoute m r → HasRoute m s → r ≡ s

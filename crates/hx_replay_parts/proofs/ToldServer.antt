@@ -1,5 +1,5 @@
 -- The server of a route has a printed form.
-use Rattle.std.proofs.Common.{◌≡◌, Bool, true, false, cond, List, [], ◌∷◌, All, refl}
+use Rattle.std.proofs.Common.{Bool, true, false, cond, List, [], ◌∷◌, All, refl}
 use Rattle.std.proofs.lemmas.List.Elements.{All-nil, All-cons}
 use Rattle.hx_pool.specs.Causes.{caretaker}
 use Rattle.hx_pool.specs.declared.entries.Entry.{Entry}

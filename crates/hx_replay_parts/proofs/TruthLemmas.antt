@@ -29,7 +29,7 @@ use Rattle.hx_script.specs.declared.transcript.ServerPart.{ServerPart}
 use Rattle.hx_script.specs.declared.transcript.Transcript.{Transcript}
 use Rattle.hx_replay_parts.specs.declared.route.Route.{Route}
 use Rattle.hx_replay_parts.specs.FirstMessages.{has_connection_field, IsFirstRequest, IsFirstAnswer, AreFirstMessages}
-use Rattle.hx_replay_parts.specs.FirstRun.{whole, server_of, totals_under, first_carried, first_served, first_left, first_client, first_conn, TellsFirst}
+use Rattle.hx_replay_parts.specs.FirstRun.{whole, server_of, first_carried, first_served, first_left, first_client, first_conn, TellsExchange}
 use Rattle.hx_replay_parts.specs.FirstHistory.{IsOver}
 use Rattle.hx_replay_parts.specs.TrueTranscript.{AreTrueServers, HasClient, HasConn, IsTrueRecord, IsTrueTranscript}
 use Rattle.hx_replay_parts.proofs.HistoryTruth.{true_server}
@@ -176,21 +176,21 @@ tiles_conn ask answer sent gave =
       order = (refl, refl, omega arith, refl, omega arith, tt);
     }
 
-has_client : (route : Route) (ask answer sent gave : List ℕ) (t : Transcript) → TellsFirst route ask answer sent gave t → HasClient t (first_served ask answer sent gave) (first_client ask gave)
+has_client : (route : Route) (ask answer sent gave : List ℕ) (t : Transcript) → TellsExchange route ask answer sent gave t → HasClient t (first_served ask answer sent gave) (first_client ask gave)
 has_client route ask answer sent gave t tells = record {
   there = subst (λ (cs : List ClientBytes). Contains cs (first_client ask gave)) (sym tells.clients) (holds_one (first_client ask gave));
   worker = refl;
   session = refl;
 }
 
-has_conn : (route : Route) (ask answer sent gave : List ℕ) (t : Transcript) → TellsFirst route ask answer sent gave t → HasConn t (first_carried sent answer) (first_conn sent answer)
+has_conn : (route : Route) (ask answer sent gave : List ℕ) (t : Transcript) → TellsExchange route ask answer sent gave t → HasConn t (first_carried sent answer) (first_conn sent answer)
 has_conn route ask answer sent gave t tells = record {
   there = subst (λ (cs : List ConnBytes). Contains cs (first_conn sent answer)) (sym tells.conns) (holds_one (first_conn sent answer));
   server = refl;
   id = refl;
 }
 
-true_records : (route : Route) (ask answer sent gave : List ℕ) (t : Transcript) → AreFirstMessages ask answer sent gave → TellsFirst route ask answer sent gave t
+true_records : (route : Route) (ask answer sent gave : List ℕ) (t : Transcript) → AreFirstMessages ask answer sent gave → TellsExchange route ask answer sent gave t
     → All (IsTrueRecord t (λ _ _. false)) (both_records ask answer sent gave)
 true_records route ask answer sent gave t m tells =
     All-cons (IsTrueRecord t (λ _ _. false)) (told.Served (first_served ask answer sent gave)) (told.Left (first_left ask) ∷ []) (
@@ -203,7 +203,7 @@ true_records route ask answer sent gave t m tells =
     (all_one (IsTrueRecord t (λ _ _. false)) (told.Left (first_left ask)) tt)
 
 pub first_is_true : (route : Route) (ask answer sent gave : List ℕ) (t : Transcript) (h : History) (what : What) → AreFirstMessages ask answer sent gave
-    → TellsFirst route ask answer sent gave t → h.about.rules ≡ route.rules → IsOver h what → IsTrueTranscript t (λ _ _. false)
+    → TellsExchange route ask answer sent gave t → h.about.rules ≡ route.rules → IsOver h what → IsTrueTranscript t (λ _ _. false)
 first_is_true route ask answer sent gave t h what m tells rules over =
     let client : TilesClient t.records (first_client ask gave) = subst (λ (rs : List Told). TilesClient rs (first_client ask gave)) (sym tells.records) (tiles_client ask answer sent gave) in
     let conn : TilesConn t.records (first_conn sent answer) = subst (λ (rs : List Told). TilesConn rs (first_conn sent answer)) (sym tells.records) (tiles_conn ask answer sent gave) in

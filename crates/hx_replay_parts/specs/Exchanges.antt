@@ -1,4 +1,4 @@
--- Private: what the exchange of the first form does over its two links.
+-- Private: what the one exchange does over its two links.
 use Rattle.std.specs.Prelude.{◌≡◌, ℕ, ◌<◌, ◌≤◌, ◌++◌, ◌⊎◌, false, List, [], length, take, Some}
 use Rattle.httparse.specs.Grammar as grammar
 use Rattle.hx_link.specs.Told.{most_bytes}
@@ -11,21 +11,21 @@ use Rattle.hx_replay_parts.specs.LinkSteps.{IsOpen}
 abbrev pub least_room : ℕ
 least_room = most_head
 
--- nothing was taken or sent yet, and the piece is a request of the first form
+-- nothing was taken or sent yet, and the piece is such a request
 pub record HasFirstRequest (m : MemoryLinkNow) : Type 0 where
   pub ask : List ℕ
   pub head : grammar.RequestHead
   pub stands : IsOpen m ask 0 [] []
   pub request : IsFirstRequest ask head
 
--- the bytes are a request of the first form, and the text is its head spelled anew
+-- the bytes are such a request, and the text is its head spelled anew
 abbrev pub IsSomeRequest : List ℕ → Type 0
 IsSomeRequest ask = (head : grammar.RequestHead) × IsFirstRequest ask head
 
 abbrev pub IsSpelledRequest : List ℕ → List ℕ → Type 0
 IsSpelledRequest ask text = (head : grammar.RequestHead) → IsFirstRequest ask head → text ≡ forwarded_request head
 
--- the bytes are an answer of the first form, and the text is its head spelled anew and its body
+-- the bytes are such an answer, and the text is its head spelled anew and its body
 abbrev pub IsSomeAnswer : List ℕ → Type 0
 IsSomeAnswer answer = (head : grammar.ResponseHead) × (body : List ℕ) × IsFirstAnswer answer head body
 
@@ -39,7 +39,7 @@ SpellsRequest old new text =
     (ask : List ℕ) (head : grammar.RequestHead) → IsOpen old ask 0 [] [] → IsFirstRequest ask head
     → IsOpen new ask 0 ask [] × (text ≡ forwarded_request head)
 
--- the bytes are the front of an answer of the first form, with its head, or all of it
+-- the bytes are the front of such an answer, with its head, or all of it
 pub record IsFrontOf (front answer : List ℕ) (head : grammar.ResponseHead) (body : List ℕ) : Type 0 where
   pub first : IsFirstAnswer answer head body
   pub front_is : front ≡ take (length front) answer
@@ -56,7 +56,7 @@ abbrev pub TellsLength : List ℕ → ℕ → Type 0
 TellsLength front n =
     (answer : List ℕ) (head : grammar.ResponseHead) (body : List ℕ) → IsFrontOf front answer head body → n ≡ length answer
 
--- nothing was taken yet, and the piece is an answer of the first form that is there
+-- nothing was taken yet, and the piece is such an answer that is there
 pub record HasFirstAnswer (m : MemoryLinkNow) : Type 0 where
   pub answer : List ℕ
   pub head : grammar.ResponseHead

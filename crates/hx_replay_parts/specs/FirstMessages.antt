@@ -1,4 +1,4 @@
--- The two messages of a script of the first form, and the texts that go out for them.
+-- The two messages of a script of one exchange, and the texts that go out for them.
 use Rattle.std.specs.Prelude.{◌≡◌, ℕ, ◌≤◌, Bool, true, false, List, [], length, codes, Ok, All}
 use Rattle.std.specs.List.{list_any}
 use Rattle.httparse.specs.Grammar.{RequestHead, ResponseHead, ReadsResponse, print_response, status_code}

@@ -1,4 +1,4 @@
--- Private: the plans of the two links of a script of the first form.
+-- Private: the plans of the two links of a script of one exchange.
 use Rattle.std.specs.Prelude.{ℕ, false, List, [], ◌∷◌, Some, None}
 use Rattle.hx_link.specs.declared.plan.Piece.{Piece}
 use Rattle.hx_link.specs.declared.plan.Plan.{Plan}

@@ -9,7 +9,7 @@ use Rattle.hx_replay_parts.specs.ConfigPart.{most_number}
 use Rattle.hx_replay_parts.specs.TrueTranscript.{IsTrueTranscript}
 use Rattle.hx_replay_parts.specs.FirstMessages.{AreFirstMessages}
 use Rattle.hx_replay_parts.specs.FirstHistory.{StandsAlone, IsOver}
-use Rattle.hx_replay_parts.specs.FirstRun.{TellsFirst}
+use Rattle.hx_replay_parts.specs.FirstRun.{TellsExchange}
 use Rattle.hx_base.specs.declared.rules.PoolRules.{PoolRules}
 use Rattle.hx_replay_parts.specs.declared.form.Script.{Script}
 use Rattle.hx_replay_parts.specs.declared.route.Route.{Route}
@@ -30,7 +30,7 @@ pub record HasEnded (rules : PoolRules) (j : Journal) (what : What) : Type 0 whe
 abbrev pub TellsRun : Route → LinkState → LinkState → Transcript → Type 0
 TellsRun route client server t =
     (ask answer sent gave : List ℕ) → client.taken ≡ Some ask → client.sent ≡ Some gave → server.taken ≡ Some answer
-    → server.sent ≡ Some sent → TellsFirst route ask answer sent gave t
+    → server.sent ≡ Some sent → TellsExchange route ask answer sent gave t
 
 -- the script has messages whose texts are so long
 pub record IsScript (s : Script) (sent gave : List ℕ) : Type 0 where
@@ -46,4 +46,4 @@ HasMessages s = (sent : List ℕ) × (gave : List ℕ) × IsScript s sent gave
 abbrev pub TellsScript : Route → Script → Transcript → Type 0
 TellsScript route s t =
     (sent gave : List ℕ) → IsScript s sent gave
-    → TellsFirst route s.ask s.answer sent gave t × IsTrueTranscript t (λ _ _. false)
+    → TellsExchange route s.ask s.answer sent gave t × IsTrueTranscript t (λ _ _. false)

@@ -117,7 +117,7 @@ abbrev pub first_conn : List ℕ → List ℕ → ConnBytes
 first_conn sent answer = record { server = server; id = conn; sent = sent; took = answer }
 
 -- the transcript of one exchange of these messages over the route
-pub record TellsFirst (route : Route) (ask answer sent gave : List ℕ) (t : Transcript) : Type 0 where
+pub record TellsExchange (route : Route) (ask answer sent gave : List ℕ) (t : Transcript) : Type 0 where
   pub servers : t.servers ≡ server_of route ∷ []
   pub records : t.records ≡ told.Served (first_served ask answer sent gave) ∷ told.Left (first_left ask) ∷ []
   pub clients : t.clients ≡ first_client ask gave ∷ []

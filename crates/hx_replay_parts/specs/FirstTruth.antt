@@ -5,7 +5,7 @@ use Rattle.hx_pool.specs.SeatView.{History}
 use Rattle.hx_script.specs.declared.transcript.Transcript.{Transcript}
 use Rattle.hx_replay_parts.specs.declared.route.Route.{Route}
 use Rattle.hx_replay_parts.specs.FirstMessages.{AreFirstMessages}
-use Rattle.hx_replay_parts.specs.FirstRun.{TellsFirst}
+use Rattle.hx_replay_parts.specs.FirstRun.{TellsExchange}
 use Rattle.hx_replay_parts.specs.FirstHistory.{IsOver}
 use Rattle.hx_replay_parts.specs.TrueTranscript.{IsTrueTranscript}
 
@@ -13,5 +13,5 @@ use Rattle.hx_replay_parts.specs.TrueTranscript.{IsTrueTranscript}
 abbrev pub FirstIsTrue : Type 0
 FirstIsTrue =
     (route : Route) (ask answer sent gave : List ℕ) (t : Transcript) (h : History) (what : What)
-    → AreFirstMessages ask answer sent gave → TellsFirst route ask answer sent gave t
+    → AreFirstMessages ask answer sent gave → TellsExchange route ask answer sent gave t
     → h.about.rules ≡ route.rules → IsOver h what → IsTrueTranscript t (λ _ _. false)

@@ -1,5 +1,5 @@
 -- Private: the parts of a script of one exchange as they are read.
-use Rattle.std.specs.Prelude.{◌≡◌, ◌≢◌, ℕ, ◌+◌, ◌<◌, ◌≤◌, List, [], ◌∷◌, ◌++◌, length, take, drop, All, slice_index, decimal, Ok}
+use Rattle.std.specs.Prelude.{◌≡◌, ◌≢◌, ℕ, ◌<◌, ◌≤◌, List, ◌∷◌, ◌++◌, length, take, drop, All, slice_index, decimal, Ok}
 use Rattle.hx_replay_parts.specs.ConfigPart.{most_number, first_words, BeginsLines}
 use Rattle.hx_replay_parts.specs.ScriptText.{IsScriptOf}
 use Rattle.hx_replay_parts.specs.FirstMessages.{AreFirstMessages}

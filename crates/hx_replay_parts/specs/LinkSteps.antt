@@ -1,4 +1,4 @@
--- Private: links whose plan has one piece, and what the exchange of the first form does over them.
+-- Private: links whose plan has one piece, and what the one exchange does over them.
 use Rattle.std.specs.Prelude.{◌≡◌, ℕ, ◌+◌, ◌-◌, ◌<◌, ◌≤◌, min, true, false, List, [], ◌∷◌, length, take, Some, None}
 use Rattle.hx_link.specs.declared.plan.Plan.{Plan}
 use Rattle.hx_link.specs.Told.{most_bytes}

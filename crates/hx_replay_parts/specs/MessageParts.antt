@@ -1,4 +1,4 @@
--- Private: the messages of a script of the first form, by the ranges of their heads.
+-- Private: the messages of a script of one exchange, by the ranges of their heads.
 use Rattle.std.specs.Prelude.{◌≡◌, ℕ, ◌≤◌, ◌-◌, false, List, length, map, take, drop, codes, Ok, All}
 use Rattle.httparse.specs.Grammar as grammar
 use Rattle.hx_base.specs.Spans.{bytes_in}

@@ -6,7 +6,7 @@ use Rattle.hx_replay_parts.specs.declared.replay.Replay.{Replay}
 use Rattle.hx_replay_parts.specs.declared.replay.Replay.TheVariants as replay
 use Rattle.hx_replay_parts.specs.declared.route.Route.{Route}
 use Rattle.hx_replay_parts.specs.Replayable.{IsReplayable, HasConfigFault, IsUnbuiltScript}
-use Rattle.hx_replay_parts.specs.FirstRun.{TellsFirst}
+use Rattle.hx_replay_parts.specs.FirstRun.{TellsExchange}
 use Rattle.hx_replay_parts.specs.TrueTranscript.{IsTrueTranscript}
 
 -- the bytes are a script of one exchange, and the text spells a true transcript of its replay
@@ -18,7 +18,7 @@ pub record Replays (bytes text : List ℕ) : Type 0 where
   pub gave : List ℕ
   pub form : IsReplayable bytes route ask answer sent gave
   pub transcript : Transcript
-  pub tells : TellsFirst route ask answer sent gave transcript
+  pub tells : TellsExchange route ask answer sent gave transcript
   pub is_true : IsTrueTranscript transcript (λ _ _. false)
   pub spells : Spells text transcript
 

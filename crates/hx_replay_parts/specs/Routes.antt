@@ -1,5 +1,5 @@
 -- The one way through a configuration of one thread: its frontend, its backend and its server.
-use Rattle.std.specs.Prelude.{◌≡◌, List, [], ◌∷◌}
+use Rattle.std.specs.Prelude.{◌≡◌, [], ◌∷◌}
 use Rattle.hx_config.specs.Meaning.{Meaning}
 use Rattle.hx_config.specs.declared.parts.Back.{Back}
 use Rattle.hx_config.specs.declared.parts.Front.{Front}

@@ -1,6 +1,6 @@
 -- What stands behind the configuration of a script of one exchange: one client, one server, one request and its answer.
 use Rattle.std.specs.Prelude.{◌≡◌, ◌⊎◌, ℕ, List, [], ◌∷◌, ◌++◌, codes, decimal}
-use Rattle.hx_script.specs.ByteText.{BeginsQuoted}
+use Rattle.hx_script_parts.specs.ByteText.{BeginsQuoted}
 use Rattle.hx_replay_parts.specs.declared.route.Route.{Route}
 
 -- up to the client's bytes

@@ -1,4 +1,4 @@
-//! The exchange of a script of the first form over its two links.
+//! The exchange of a script of one exchange over its two links.
 ghost use Rattle.std.specs.Prelude.{◌≡◌, ◌≤◌, length, ℕ, IfOk, OnOk};
 ghost use Rattle.hx_message.specs.declared.BodyKind.TheVariants.{Length};
 ghost use Rattle.hx_replay_parts.specs.Exchanges.{least_room, HasFirstRequest, IsSomeRequest, IsSpelledRequest, SpellsRequest, HasFront, TellsLength, IsSomeAnswer, IsSpelledAnswer, HasFirstAnswer, SpellsAnswer, AreReady, AreExchanged};

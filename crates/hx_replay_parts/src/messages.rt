@@ -1,4 +1,4 @@
-//! The messages of a script of the first form.
+//! The messages of a script of one exchange.
 ghost use Rattle.std.specs.Prelude.{◌≡◌, ◌↔◌, ◌≤◌, IsTrue, MatchOption, All, length, map, take};
 ghost use Rattle.std.specs.Str.{str_eq_ignore_ascii_case};
 ghost use Rattle.hx_base.specs.Spans.{bytes_in};
@@ -56,7 +56,7 @@ fn is_first_request(bytes: &[u8], head: &RequestHead) -> bool
         && !has_connection_field(bytes, &head.fields[..head.count as usize])
 }
 
-/// The head, where the bytes are a request of the first form.
+/// The head, where the bytes are such a request.
 pub(crate) fn first_request(bytes: &[u8]) -> Option<RequestHead>
     ensures { MatchOption result (NoFirstRequest bytes.now) (IsFirstRequestAt bytes.now) }
 {
@@ -84,7 +84,7 @@ fn has_length(bytes: &[u8], head: &AnswerHead, body: usize) -> bool
     }
 }
 
-/// Whether the field is no Content-Length of more digits than a script of the first form may have.
+/// Whether the field is no Content-Length of more digits than a script of one exchange may have.
 fn is_short(bytes: &[u8], field: FieldSpan) -> bool
     requires { IsFieldIn (length bytes.now) field }
     ensures { IsTrue result ↔ IsShort (field_in bytes.now field) }
@@ -122,7 +122,7 @@ fn is_first_answer(bytes: &[u8], head: &AnswerHead) -> bool
         && !has_connection_field(bytes, fields)
 }
 
-/// The head, where the bytes are an answer of the first form.
+/// The head, where the bytes are such an answer.
 pub(crate) fn first_answer(bytes: &[u8]) -> Option<AnswerHead>
     ensures { MatchOption result (NoFirstAnswer bytes.now) (IsFirstAnswerAt bytes.now) }
 {

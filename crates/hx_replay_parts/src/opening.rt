@@ -30,13 +30,7 @@ fn number_in(word: &str) -> Option<usize>
     ensures { MatchOption result (NoNumber word.now) (IsNumber word.now) }
 {
     match word.parse::<usize>() {
-        Ok(n) => {
-            if is_number(n, word) {
-                Some(n)
-            } else {
-                None
-            }
-        }
+        Ok(n) => { if is_number(n, word) { Some(n) } else { None } }
         Err(_) => None,
     }
 }

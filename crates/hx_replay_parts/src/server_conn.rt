@@ -1,4 +1,4 @@
-//! The connection to the server of a script of the first form.
+//! The connection to the server of a script of one exchange.
 ghost use Rattle.std.specs.Prelude.{◌≡◌};
 
 use hx_base::{ConnId, Face, Faced, ServerNo};

@@ -5,7 +5,7 @@ ghost use Rattle.hx_replay_parts.specs.LinkSteps.{HasMore, ReadsMore, HasRest, R
 use hx_base::{Millis, NoMemory};
 use hx_link::{Got, Link, MemoryLink, Put};
 
-/// The one moment of a script of the first form.
+/// The one moment of a script of one exchange.
 const NOW: Millis = Millis(0);
 
 /// Reads the next bytes behind those that were read.

@@ -2,7 +2,7 @@
 ghost use Rattle.std.specs.Prelude.{◌≡◌, ◌∷◌, [], IfOk};
 ghost use Rattle.hx_record.specs.declared.served.Told.TheVariants as told;
 ghost use Rattle.hx_replay_parts.specs.Routes.{IsNamed};
-ghost use Rattle.hx_replay_parts.specs.FirstRun.{whole, marks_under, totals_under, server_of, first_carried, first_served, first_left, TellsFirst};
+ghost use Rattle.hx_replay_parts.specs.FirstRun.{whole, marks_under, totals_under, server_of, first_carried, first_served, first_left, TellsExchange};
 ghost use Rattle.hx_replay_parts.specs.FirstTruth.{FirstIsTrue};
 
 use crate::route::Route;
@@ -113,7 +113,7 @@ pub(crate) fn tell_first(
     requires named { IsNamed route }
     requires marks { marks ≡ marks_under route.rules }
     requires totals { totals ≡ totals_under route.rules }
-    ensures { IfOk result (TellsFirst route run.ask run.answer run.sent run.gave) }
+    ensures { IfOk result (TellsExchange route run.ask run.answer run.sent run.gave) }
 {
     let records = records(alloc, &run)?;
     let part = server_part(route, marks);

@@ -9,11 +9,11 @@ use Rattle.std.proofs.lemmas.Bool.{and_parts}
 use Rattle.std.proofs.lemmas.List.{append_cancel_left}
 use Rattle.std.proofs.lemmas.Fmt.{decimal_injective, digits_decimal}
 use Rattle.std.proofs.lemmas.Str.Parse.{IsNumeralModel, numerals_by_value, tells_all_ascii_digits}
-use Rattle.hx_script.specs.ByteText.{quoted}
+use Rattle.hx_script_parts.specs.ByteText.{quoted}
 use Rattle.hx_script.specs.MarkLines.{max_text}
 use Rattle.hx_script.specs.PrintedForm.{is_name_byte}
 use Rattle.hx_script.specs.Numbers.{IsNumber, IsByte, IsLimit}
-use Rattle.hx_script.proofs.ByteTextLemmas.{same_byte_text, spelling_quotes}
+use Rattle.hx_script_parts.proofs.ByteTextLemmas.{same_byte_text, spelling_quotes}
 
 -- ---- values
 

@@ -7,7 +7,7 @@ use Rattle.hx_base.specs.declared.totals.Totals.{Totals}
 use Rattle.hx_record.specs.declared.bytes.ClientBytes.{ClientBytes}
 use Rattle.hx_record.specs.declared.bytes.ConnBytes.{ConnBytes}
 use Rattle.hx_script.specs.declared.transcript.ServerPart.{ServerPart}
-use Rattle.hx_script.specs.ByteText.{quoted}
+use Rattle.hx_script_parts.specs.ByteText.{quoted}
 use Rattle.hx_script.specs.MarkLines.{full_name}
 use Rattle.hx_script.specs.RecordLines.{conn_text}
 use Rattle.hx_script.specs.LinkLines.{client_lines, conn_lines, totals_text, totals_lines}

@@ -1,8 +1,6 @@
-pub mod ByteText
 pub mod LinkLines
 pub mod MarkLines
 pub mod Numbers
 pub mod Printed
 pub mod PrintedForm
-pub mod QuotedReading
 pub mod RecordLines

@@ -4,7 +4,7 @@ use Rattle.hx_base.specs.declared.totals.Totals.{Totals}
 use Rattle.hx_record.specs.declared.bytes.ClientBytes.{ClientBytes}
 use Rattle.hx_record.specs.declared.bytes.ConnBytes.{ConnBytes}
 use Rattle.hx_script.specs.declared.transcript.ServerPart.{ServerPart}
-use Rattle.hx_script.specs.ByteText.{quoted}
+use Rattle.hx_script_parts.specs.ByteText.{quoted}
 use Rattle.hx_script.specs.MarkLines.{who, full_name}
 use Rattle.hx_script.specs.RecordLines.{conn_text}
 

@@ -1,4 +1,4 @@
-//! Transcripts of replays, and the texts of scripts and transcripts.
+//! Scripts and transcripts of replays: their types and their texts.
 #![tactic(auto)]
 
 mod laws;
@@ -7,7 +7,6 @@ mod mark_lines;
 mod numbers;
 mod pieces;
 mod print;
-mod quoted;
 mod record_lines;
 #[cfg(test)]
 mod tests;
@@ -16,8 +15,8 @@ mod transcript;
 pub use hx_record::{
     Carried, ClientBytes, ConnBytes, CutCause, Kind, Left, LeftCause, Served, Told,
 };
+pub use hx_script_parts::{ClientLine, Script, TextFault, one_byte_text, read_quoted, read_script};
 pub use laws::one_transcript;
 pub use numbers::numbers_fit;
 pub use print::print_transcript;
-pub use quoted::{one_byte_text, read_quoted};
 pub use transcript::{ServerPart, Transcript};

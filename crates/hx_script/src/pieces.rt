@@ -1,7 +1,7 @@
 //! The pieces of lines.
 ghost use Rattle.std.specs.Prelude.{◌≡◌, ◌<◌, ◌++◌, length, codes, decimal, OnOk};
 ghost use Rattle.std.specs.List.{flat_map};
-ghost use Rattle.hx_script.specs.ByteText.{escaped, quoted, hex_digit};
+ghost use Rattle.hx_script_parts.specs.ByteText.{escaped, quoted, hex_digit};
 ghost use Rattle.hx_script.specs.MarkLines.{who, place_text};
 ghost use Rattle.hx_script.specs.RecordLines.{span_text};
 
@@ -56,7 +56,7 @@ fn hex(d: u8) -> u8
     if d < 10 { b'0' + d } else { b'a' - 10 + d }
 }
 
-#[tactic(auto, unfolding(crate::specs::ByteText::escaped))]
+#[tactic(auto, unfolding(hx_script_parts::specs::ByteText::escaped))]
 fn put_escaped(out: &mut Vec<u8>, b: u8) -> Result<(), NoMemory>
     ensures { OnOk result (out.new.items ≡ out.old.items ++ escaped b) }
 {

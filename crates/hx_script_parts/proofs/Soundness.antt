@@ -1,22 +1,28 @@
 -- Each line keeps the limits.
 use Rattle.std.proofs.Common.{◌≡◌, ℕ, ◌+◌, ◌<◌, ◌≤◌, Bool, true, false, List, [], ◌∷◌, ◌++◌, length, Option, Some, None, Result, Ok, Err, refl, sym, ap, subst, ◌∙◌, arith, inl, inr}
-use Rattle.std.specs.Prelude.{IfOk, ⊤, ◌&&◌, ◌==◌, nat_le, nat_lt, is_some, cond, bytes_eq, slice_get, codes, not}
-use Rattle.std.specs.List.{list_all}
+use Rattle.std.specs.Prelude.{IfOk, ⊤, ◌⊎◌, ◌&&◌, ◌==◌, nat_le, nat_lt, is_some, cond, bytes_eq, slice_get}
+use Rattle.std.specs.List.{list_all, list_any}
 use Rattle.std.specs.Ordering.{nat_cmp, match_ordering}
 use Rattle.std.specs.declared.cmp.Ordering.{Ordering}
 use Rattle.std.specs.declared.cmp.Ordering.TheVariants.{Less, Equal, Greater}
 use Rattle.std.specs.BTreeSet.{insert_key}
 use Rattle.std.proofs.lemmas.List.{length-append}
-use Rattle.std.proofs.lemmas.Bool.{cases_Bool, and_parts, and_from, lt-ltb, ltb-true, leb-false, eqb-true, eqb-false, ltb-false, cond_both, cond-true, cond-false}
+use Rattle.std.proofs.lemmas.List.Folds.{list_any-append}
+use Rattle.std.proofs.lemmas.Bool.{cases_Bool, and_parts, and_from, or_left, or_right, eq-eqb, lt-ltb, ltb-true, leb-false, eqb-true, eqb-false, ltb-false, cond_both, cond-true, cond-false}
 use Rattle.std.proofs.lemmas.Result.{IfOk-at_ok}
 use Rattle.hx_base.specs.declared.numbers.Millis.{Millis}
+use Rattle.hx_base.specs.declared.numbers.ServerNo.{ServerNo}
 use Rattle.hx_base.specs.declared.numbers.ThreadNo.{ThreadNo}
+use Rattle.hx_base.specs.declared.order.Order.{Order}
+use Rattle.hx_config.specs.Limits.{all_servers}
 use Rattle.hx_config.specs.Meaning as config
-use Rattle.hx_config.specs.Keywords.{found}
+use Rattle.hx_config.specs.Keywords.{found, or_else}
+use Rattle.hx_config.specs.declared.parts.Back.{Back}
 use Rattle.hx_config.specs.declared.parts.Front.{Front}
+use Rattle.hx_config.specs.declared.parts.Server.{Server}
 use Rattle.hx_link.specs.declared.plan.Plan.{Plan}
 use Rattle.hx_script_parts.specs.declared.fault.Rule.{Rule}
-use Rattle.hx_script_parts.specs.declared.fault.Rule.TheVariants.{BadNumber, BadLine, BadWorker, WrongPlace, MomentFalls, TooMany, NoSuchFrontend}
+use Rattle.hx_script_parts.specs.declared.fault.Rule.TheVariants.{BadNumber, BadLine, BadWorker, WrongPlace, MomentFalls, TooMany, NoSuchFrontend, NoSuchServer}
 use Rattle.hx_script_parts.specs.declared.fault.Flaw.{Flaw}
 use Rattle.hx_script_parts.specs.declared.keywords.FirstWord.{FirstWord}
 use Rattle.hx_script_parts.specs.declared.keywords.FirstWord.TheVariants as first
@@ -30,9 +36,9 @@ use Rattle.hx_script_parts.specs.declared.script.ClientLine.{ClientLine}
 use Rattle.hx_script_parts.specs.Faults.{◌>>=◌, unless, located}
 use Rattle.hx_script_parts.specs.Keywords.{first_words}
 use Rattle.hx_script_parts.specs.Lexical.{Rest, word_at, text_at, at_end}
-use Rattle.hx_script_parts.specs.Limits.{is_positive, has_limits, is_client_of, comes_before, are_rising, IsWithin}
+use Rattle.hx_script_parts.specs.Limits.{is_positive, is_client_of, is_server_of, is_plan_of, server_of, is_order_of, comes_before, are_rising, IsWithin}
 use Rattle.hx_script_parts.specs.Meaning.{lines_read}
-use Rattle.hx_script_parts.specs.Names.{found_or, front_from, front_at, server_at, worker_below, worker_at}
+use Rattle.hx_script_parts.specs.Names.{found_or, front_from, is_named, server_in, server_among, front_at, server_at, worker_below, worker_at}
 use Rattle.hx_script_parts.specs.Numbers.{greatest, is_decimal, number_in, number_at, moment_at}
 use Rattle.hx_script_parts.specs.Reading.{with_moment, as_moments, empty_link, plan_of, with_plan, ended, closed, with_link, at_moment, is_refused, link_of, link_at, nothing_read}
 use Rattle.hx_script_parts.specs.Sound.{clients_in, plans_in, is_owner_of, clients_open, plans_open, is_link_of, IsSound}
@@ -111,6 +117,41 @@ worker_in c ws x is =
     let same : worker.0 ≡ x.0 = ap (λ (y : ThreadNo × Rest). y.0) (ok_inj (worker.0, number.0.1) x worker.2) in
     ap (λ (t : ThreadNo). nat_lt t.0 c.threads) (sym (test.1 ∙ same)) ∙ test.0
 
+server_has : (word back : List ℕ) (ss : List Server) (n : ServerNo) → server_in word back ss ≡ Some n → list_any (λ (s : Server). s.no.0 == n.0) ss ≡ true
+unfolding server_in
+server_has word back [] n is = absurd (cc)
+server_has word back (s ∷ ss) n is = elim (cases_Bool (is_named word back s.name)) [
+  | inl here ↦ (let same : s.no ≡ n = some_inj s.no n (sym (cond-true _ _ _ here) ∙ is) in or_left _ _ (eq-eqb s.no.0 n.0 (ap (λ (x : ServerNo). x.0) same)))
+  | inr later ↦ or_right (s.no.0 == n.0) _ (server_has word back ss n (sym (cond-false _ _ _ later) ∙ is))
+]
+
+either : {A : Type 0} (o p : Option A) (x : A) → or_else o p ≡ Some x → (o ≡ Some x) ⊎ (p ≡ Some x)
+either None p x is = inr is
+either (Some y) p x is = inl is
+
+servers_have : (word : List ℕ) (bs : List Back) (n : ServerNo) → server_among word bs ≡ Some n → list_any (λ (s : Server). s.no.0 == n.0) (all_servers bs) ≡ true
+unfolding server_among
+servers_have word [] n is = absurd (cc)
+servers_have word (b ∷ bs) n is =
+    let p : Server → Bool = λ s. s.no.0 == n.0 in
+    list_any-append p b.servers (all_servers bs)
+    ∙ elim (either (server_in word b.name b.servers) (server_among word bs) n is) [
+      | inl here ↦ or_left (list_any p b.servers) _ (server_has word b.name b.servers n here)
+      | inr later ↦ or_right (list_any p b.servers) _ (servers_have word bs n later)
+    ]
+
+server_is_of : (c : config.Meaning) (ws : Rest) (x : ServerNo × Rest) → server_at c ws ≡ Ok x → is_server_of c x.0 ≡ true
+server_is_of c ws x is =
+    let word = bind_ok (word_at ws) (λ w. found_or NoSuchServer (server_among w.0 c.backs) >>= λ s. Ok (s, w.1)) x is in
+    let server = bind_ok (found_or NoSuchServer (server_among word.0.0 c.backs)) (λ s. Ok (s, word.0.1)) x word.2 in
+    let same : server.0 ≡ x.0 = ap (λ (y : ServerNo × Rest). y.0) (ok_inj (server.0, word.0.1) x server.2) in
+    ap (is_server_of c) (sym same)
+    ∙ servers_have word.0.0 c.backs server.0 (found_is NoSuchServer (server_among word.0.0 c.backs) server.0 server.1)
+
+ordered_server : (what : OrderWord) (s : ServerNo) → server_of (means.order_of what s) ≡ s
+ordered_server ordered.Drain s = refl
+ordered_server ordered.Ready s = refl
+
 link_there : (o : Option OpenLink) (l : OpenLink) → link_of o ≡ Ok l → o ≡ Some l
 link_there None l is = absurd (cc)
 link_there (Some k) l is = ap Some (passed_ok (is_refused k.owner) k l WrongPlace is)
@@ -158,6 +199,7 @@ kept_moment c m r h = record {
   plans = h.plans;
   clients_hold = h.clients_hold;
   plans_hold = h.plans_hold;
+  orders_hold = h.orders_hold;
   current = h.current;
   rising = rising_insert r.moments m.0 h.rising;
 }
@@ -169,25 +211,27 @@ all_pushed p [] x each here = and_from _ _ here refl
 all_pushed p (y ∷ ys) x each here = let parts = and_parts (p y) (list_all p ys) each in and_from _ _ parts.0 (all_pushed p ys x parts.1 here)
 
 plan_added : (c : config.Meaning) (w : Owner) (l : OpenLink) (r : Reading) → length r.clients + clients_in w ≤ 1000 → length r.plans + plans_in w ≤ 4096
-    → list_all (is_client_of c) r.clients ≡ true → list_all has_limits r.plans ≡ true → is_owner_of c w ≡ true
+    → list_all (is_client_of c) r.clients ≡ true → list_all (is_plan_of c) r.plans ≡ true → list_all (is_order_of c) r.orders ≡ true → is_owner_of c w ≡ true
     → (is_positive l.room && is_positive l.fail) ≡ true → are_rising (as_moments r.moments) ≡ true → IsSound c (with_plan w l (record r { current = None }))
-plan_added c (owner.Client front worker moment) l r clients plans clients_hold plans_hold own limits rising =
+plan_added c (owner.Client front worker moment) l r clients plans clients_hold plans_hold orders_hold own limits rising =
     let x : ClientLine = record { front = front; worker = worker; moment = moment; plan = plan_of None false l } in
     record {
       clients = omega (arith, length-append r.clients (x ∷ []));
       plans = plans;
-      clients_hold = all_pushed (is_client_of c) r.clients x clients_hold (and_from _ _ own limits);
+      clients_hold = all_pushed (is_client_of c) r.clients x clients_hold (and_from _ _ own (and_from _ _ refl limits));
       plans_hold = plans_hold;
+      orders_hold = orders_hold;
       current = refl;
       rising = rising;
     }
-plan_added c (owner.Server server refuse) l r clients plans clients_hold plans_hold own limits rising =
+plan_added c (owner.Server server refuse) l r clients plans clients_hold plans_hold orders_hold own limits rising =
     let x : Plan = plan_of (Some server) refuse l in
     record {
       clients = clients;
       plans = omega (arith, length-append r.plans (x ∷ []));
       clients_hold = clients_hold;
-      plans_hold = all_pushed has_limits r.plans x plans_hold limits;
+      plans_hold = all_pushed (is_plan_of c) r.plans x plans_hold (and_from _ _ own limits);
+      orders_hold = orders_hold;
       current = refl;
       rising = rising;
     }
@@ -196,7 +240,7 @@ ended_sound : (c : config.Meaning) (o : Option OpenLink) (r : Reading) → IsSou
 ended_sound c None r h = h
 ended_sound c (Some l) r h =
     let parts = and_parts (is_owner_of c l.owner) (is_positive l.room && is_positive l.fail) h.current in
-    plan_added c l.owner l r h.clients h.plans h.clients_hold h.plans_hold parts.0 parts.1 h.rising
+    plan_added c l.owner l r h.clients h.plans h.clients_hold h.plans_hold h.orders_hold parts.0 parts.1 h.rising
 
 closed_sound : (c : config.Meaning) (r : Reading) → IsSound c r → IsSound c (closed r)
 closed_sound c r h = ended_sound c r.current r h
@@ -210,6 +254,7 @@ begun_sound c line w r h clients plans own = record {
   plans = plans;
   clients_hold = h.clients_hold;
   plans_hold = h.plans_hold;
+  orders_hold = h.orders_hold;
   current = and_from _ _ own refl;
   rising = h.rising;
 }
@@ -227,6 +272,7 @@ link_kept c r l k h is own limits =
       plans = omega (arith, h.plans, plans);
       clients_hold = h.clients_hold;
       plans_hold = h.plans_hold;
+      orders_hold = h.orders_hold;
       current = and_from _ _ (ap (is_owner_of c) own ∙ parts.0) limits;
       rising = h.rising;
     }
@@ -252,10 +298,10 @@ client_keeps c line r ws h =
 server_keeps : (c : config.Meaning) (line : ℕ) (r : Reading) (ws : Rest) → IsSound c r → Keeps c (means.server_line c line r ws)
 server_keeps c line r ws h =
     let k = closed_sound c r h in
-    then_keeps c (server_at c ws) _ (λ server _. then_keeps c (means.refuse_at server.1) _ (λ refuse _.
+    then_keeps c (server_at c ws) _ (λ server server_is. then_keeps c (means.refuse_at server.1) _ (λ refuse _.
     then_keeps c (unless (nat_le 4096 (length (closed r).plans)) TooMany) _ (λ few few_is.
     let lt = leb-false 4096 (length (closed r).plans) (held _ TooMany few few_is) in
-    begun_sound c line (owner.Server server.0 refuse) (closed r) k (omega (arith, k.clients)) (omega (arith, lt)) refl)))
+    begun_sound c line (owner.Server server.0 refuse) (closed r) k (omega (arith, k.clients)) (omega (arith, lt)) (server_is_of c ws server server_is))))
 
 piece_keeps : (c : config.Meaning) (r : Reading) (ws : Rest) → IsSound c r → Keeps c (means.piece_line r ws)
 piece_keeps c r ws h =
@@ -292,13 +338,14 @@ fail_keeps c r ws h =
 
 order_keeps : (what : OrderWord) (c : config.Meaning) (r : Reading) (ws : Rest) → IsSound c r → Keeps c (means.order_line what c r ws)
 order_keeps what c r ws h =
-    then_keeps c (moment_at ws) _ (λ m _. then_keeps c (server_at c m.1) _ (λ server _. then_keeps c (at_end server.1) _ (λ e _.
+    then_keeps c (moment_at ws) _ (λ m _. then_keeps c (server_at c m.1) _ (λ server server_is. then_keeps c (at_end server.1) _ (λ e _.
     let more : Reading = record r { orders = r.orders ++ (m.0, means.order_of what server.0) ∷ [] } in
     kept_moment c m.0 more (record {
       clients = h.clients;
       plans = h.plans;
       clients_hold = h.clients_hold;
       plans_hold = h.plans_hold;
+      orders_hold = all_pushed (is_order_of c) r.orders (m.0, means.order_of what server.0) h.orders_hold (ap (is_server_of c) (ordered_server what server.0) ∙ server_is_of c m.1 server server_is);
       current = h.current;
       rising = h.rising;
     }))))
@@ -342,6 +389,7 @@ nothing_sound c = record {
   plans = omega arith;
   clients_hold = refl;
   plans_hold = refl;
+  orders_hold = refl;
   current = refl;
   rising = refl;
 }
@@ -350,7 +398,7 @@ pub text_sound : (c : config.Meaning) (line : ℕ) (ls : List (List ℕ)) (r : R
 text_sound c line ls r is = IfOk-at_ok (IsSound c) is (lines_keep c line nothing_read ls (nothing_sound c))
 
 pub script_within : (c : config.Meaning) (r : Reading) → IsSound c r
-    → IsWithin c (closed r).clients (closed r).plans (as_moments (with_moment (record { 0 = 0 }) (closed r).moments))
+    → IsWithin c (closed r).clients (closed r).plans (closed r).orders (as_moments (with_moment (record { 0 = 0 }) (closed r).moments))
 script_within c r h =
     let k = closed_sound c r h in
     record {
@@ -358,21 +406,24 @@ script_within c r h =
       plans_in = omega (arith, k.plans);
       clients_hold = k.clients_hold;
       plans_hold = k.plans_hold;
+      orders_hold = k.orders_hold;
       begins = zero_first (closed r).moments;
       rising = rising_insert (closed r).moments 0 k.rising;
     }
 
 -- the same of what calls left and gave
-pub given_within : (c : config.Meaning) (r t : Reading) (u : List ℕ) (clients : List ClientLine) (plans : List Plan) (moments : List Millis) → IsSound c r
+pub given_within : (c : config.Meaning) (r t : Reading) (u : List ℕ) (clients : List ClientLine) (plans : List Plan) (orders : List (Millis × Order)) (moments : List Millis) → IsSound c r
     → ◌≡◌ {A = Result Reading Rule} (Ok (closed r)) (Ok t) → ◌≡◌ {A = Result (List ℕ) Rule} (Ok (with_moment (record { 0 = 0 }) t.moments)) (Ok u)
-    → clients ≡ t.clients → plans ≡ t.plans → ◌≡◌ {A = Result (List Millis) Rule} (Ok (as_moments u)) (Ok moments) → IsWithin c clients plans moments
-given_within c r t u clients plans moments h over added clients_is plans_is moments_is =
+    → clients ≡ t.clients → plans ≡ t.plans → orders ≡ t.orders → ◌≡◌ {A = Result (List Millis) Rule} (Ok (as_moments u)) (Ok moments) → IsWithin c clients plans orders moments
+given_within c r t u clients plans orders moments h over added clients_is plans_is orders_is moments_is =
     let k = script_within c r h in
     let over_is : closed r ≡ t = ok_inj (closed r) t over in
     let all : as_moments (with_moment (record { 0 = 0 }) (closed r).moments) ≡ moments =
     ap (λ (x : Reading). as_moments (with_moment (record { 0 = 0 }) x.moments)) over_is ∙ ap as_moments (ok_inj _ u added) ∙ ok_inj (as_moments u) moments moments_is in
-    let P : List Millis → Type 0 = λ ms. IsWithin c (closed r).clients (closed r).plans ms in
-    let Q : List ClientLine → Type 0 = λ xs. IsWithin c xs (closed r).plans moments in
-    let R : List Plan → Type 0 = λ ps. IsWithin c clients ps moments in
-    subst R (ap (λ (x : Reading). x.plans) over_is ∙ sym plans_is)
-    (subst Q (ap (λ (x : Reading). x.clients) over_is ∙ sym clients_is) (subst P all k))
+    let P : List Millis → Type 0 = λ ms. IsWithin c (closed r).clients (closed r).plans (closed r).orders ms in
+    let Q : List ClientLine → Type 0 = λ xs. IsWithin c xs (closed r).plans (closed r).orders moments in
+    let R : List Plan → Type 0 = λ ps. IsWithin c clients ps (closed r).orders moments in
+    let S : List (Millis × Order) → Type 0 = λ os. IsWithin c clients plans os moments in
+    subst S (ap (λ (x : Reading). x.orders) over_is ∙ sym orders_is)
+    (subst R (ap (λ (x : Reading). x.plans) over_is ∙ sym plans_is)
+    (subst Q (ap (λ (x : Reading). x.clients) over_is ∙ sym clients_is) (subst P all k)))

@@ -1,12 +1,12 @@
 -- Private: what holds of everything that is read, so that each script keeps the limits.
-use Rattle.std.specs.Prelude.{◌≡◌, ℕ, ◌+◌, ◌≤◌, Bool, true, ◌&&◌, List, length, Option, Some, None, nat_lt}
+use Rattle.std.specs.Prelude.{◌≡◌, ℕ, ◌+◌, ◌≤◌, Bool, true, ◌&&◌, length, Option, Some, None, nat_lt}
 use Rattle.std.specs.List.{list_all}
 use Rattle.hx_config.specs.Meaning as config
 use Rattle.hx_script_parts.specs.declared.reading.Owner.{Owner}
 use Rattle.hx_script_parts.specs.declared.reading.Owner.TheVariants as owner
 use Rattle.hx_script_parts.specs.declared.reading.OpenLink.{OpenLink}
 use Rattle.hx_script_parts.specs.declared.reading.Reading.{Reading}
-use Rattle.hx_script_parts.specs.Limits.{is_positive, has_limits, is_client_of, are_rising}
+use Rattle.hx_script_parts.specs.Limits.{is_positive, is_client_of, is_server_of, is_plan_of, is_order_of, are_rising}
 use Rattle.hx_script_parts.specs.Reading.{as_moments}
 
 -- how many clients the link is, and how many plans
@@ -18,10 +18,10 @@ abbrev pub plans_in : Owner → ℕ
 plans_in (owner.Client front worker moment) = 0
 plans_in (owner.Server server refuse) = 1
 
--- its frontend and its worker are those of the configuration
+-- its frontend and its worker, or its server, are those of the configuration
 abbrev pub is_owner_of : config.Meaning → Owner → Bool
 is_owner_of c (owner.Client front worker moment) = nat_lt front (length c.fronts) && nat_lt worker.0 c.threads
-is_owner_of c (owner.Server server refuse) = true
+is_owner_of c (owner.Server server refuse) = is_server_of c server
 
 abbrev pub clients_open : Option OpenLink → ℕ
 clients_open None = 0
@@ -39,6 +39,7 @@ pub record IsSound (c : config.Meaning) (r : Reading) : Type 0 where
   pub clients : length r.clients + clients_open r.current ≤ 1000
   pub plans : length r.plans + plans_open r.current ≤ 4096
   pub clients_hold : list_all (is_client_of c) r.clients ≡ true
-  pub plans_hold : list_all has_limits r.plans ≡ true
+  pub plans_hold : list_all (is_plan_of c) r.plans ≡ true
+  pub orders_hold : list_all (is_order_of c) r.orders ≡ true
   pub current : is_link_of c r.current ≡ true
   pub rising : are_rising (as_moments r.moments) ≡ true

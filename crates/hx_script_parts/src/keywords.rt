@@ -1,5 +1,5 @@
 //! The words that lines begin with.
-ghost use Rattle.std.specs.Prelude.{◌≡◌, bytes_eq};
+ghost use Rattle.std.specs.Prelude.{◌≡◌};
 ghost use Rattle.hx_config.specs.Keywords.{found};
 ghost use Rattle.hx_script_parts.specs.Keywords.{first_words};
 

@@ -1,5 +1,5 @@
 //! The frontends, the servers and the workers that a script names.
-ghost use Rattle.std.specs.Prelude.{◌≡◌, ◌≤◌, ◌<◌, ◌++◌, ◌∷◌, IfSome, length, bytes_eq};
+ghost use Rattle.std.specs.Prelude.{◌≡◌, ◌<◌, IfSome, length};
 ghost use Rattle.hx_config.specs.Views.{meaning};
 ghost use Rattle.hx_script_parts.specs.Faults.{Gives};
 ghost use Rattle.hx_script_parts.specs.Names as named;

@@ -1,5 +1,5 @@
 //! Numbers and moments.
-ghost use Rattle.std.specs.Prelude.{◌≡◌, ℕ, ◌≤◌, min, true};
+ghost use Rattle.std.specs.Prelude.{◌≡◌, ◌≤◌, min, true};
 ghost use Rattle.std.specs.List.{list_all};
 ghost use Rattle.hx_config.specs.Addresses.{is_plain};
 ghost use Rattle.hx_config.specs.Numbers.{is_digit, value};

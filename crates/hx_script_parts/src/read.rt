@@ -1,9 +1,9 @@
 //! Reading a whole text.
-ghost use Rattle.std.specs.Prelude.{◌≡◌, ◌+◌, ◌≤◌, [], length, take, IfOk, IfErr, Ok};
+ghost use Rattle.std.specs.Prelude.{◌≡◌, ◌+◌, ◌≤◌, length, IfOk, IfErr, Ok};
 ghost use Rattle.hx_config.specs.Meaning as config_meaning;
 ghost use Rattle.hx_config.specs.Views as config_view;
-ghost use Rattle.hx_script_parts.specs.Faults.{Gives, Leads, IsFaultOf, stop_at, fault_of, located};
-ghost use Rattle.hx_script_parts.specs.Lexical.{lines_of, first_line, in_front, behind};
+ghost use Rattle.hx_script_parts.specs.Faults.{Gives, Leads, IsFaultOf, stop_at};
+ghost use Rattle.hx_script_parts.specs.Lexical.{lines_of};
 ghost use Rattle.hx_script_parts.specs.Meaning as meant;
 ghost use Rattle.hx_script_parts.specs.Reading.{nothing_read, closed};
 ghost use Rattle.hx_script_parts.specs.Sound.{IsSound};

@@ -19,7 +19,7 @@ pub struct ClientLine {
 }
 
 /// A script, each list in the order of its lines. It has at most 1,000 clients and 4,096 plans. The frontends and
-/// workers of its clients are those of the configuration, and `room` and `fail` are at least 1.
+/// workers of its clients, and the servers of its plans and orders, are those of the configuration, and `room` and `fail` are at least 1.
 #[derive(Drop)]
 pub struct Script {
     pub config: Config,
@@ -30,5 +30,5 @@ pub struct Script {
     pub orders: Items<(Millis, Order)>,
     /// The moments of all lines and 0, each once and rising.
     pub moments: Items<Millis>,
-    pub ghost within: { IsWithin (config_view.meaning config) clients plans moments },
+    pub ghost within: { IsWithin (config_view.meaning config) clients plans orders moments },
 }

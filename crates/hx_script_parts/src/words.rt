@@ -1,10 +1,9 @@
 //! The words of a line.
-ghost use Rattle.std.specs.Prelude.{◌≡◌, ◌≤◌, ◌↔◌, length, Some, None, IsTrue, bytes_eq, take, drop, IfOk};
+ghost use Rattle.std.specs.Prelude.{◌≡◌, ◌≤◌, ◌↔◌, length, Some, None, IsTrue, bytes_eq};
 ghost use Rattle.std.specs.Option.{option_map};
 ghost use Rattle.std.specs.List.{prefix_len};
 ghost use Rattle.hx_script_parts.specs.Faults.{Gives, unless};
-ghost use Rattle.hx_script_parts.specs.Lexical.{is_inside, behind_word, behind_text, word_at, text_at, at_end};
-ghost use Rattle.hx_script_parts.specs.QuotedReading.{quoted_at};
+ghost use Rattle.hx_script_parts.specs.Lexical.{is_inside, behind_word, word_at, text_at, at_end};
 
 use crate::fault::{Refusal, Rule};
 use crate::quoted::read_front;

@@ -46,7 +46,9 @@ fn the_first_fault_of_a_configuration_is_told(rt: HostRuntime) -> Result<(), Fai
 }
 
 #[test]
-fn a_text_that_does_not_begin_as_a_script_has_no_configuration(rt: HostRuntime) -> Result<(), Fail> {
+fn a_text_that_does_not_begin_as_a_script_has_no_configuration(
+    rt: HostRuntime,
+) -> Result<(), Fail> {
     for script in [
         "hx-script 1\nconfig 0",
         "hx-script 1\nconfig 0\n",

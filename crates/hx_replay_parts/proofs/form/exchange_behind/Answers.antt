@@ -1,4 +1,4 @@
-use Rattle.std.proofs.Common.{sym, subst}
+use Rattle.std.proofs.Common.{subst}
 use Rattle.hx_config.specs.Views.{meaning}
 use Rattle.hx_replay_parts.specs.FormParts.{NoExchange}
 use Rattle.hx_replay_parts.specs.declared.route.Route.{Route}

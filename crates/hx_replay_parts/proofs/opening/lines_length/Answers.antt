@@ -1,4 +1,4 @@
-use Rattle.std.proofs.Common.{◌≡◌, ◌+◌, ℕ, true, false, length, sym, subst, ◌∙◌, arith}
+use Rattle.std.proofs.Common.{◌+◌, true, false, sym, subst, ◌∙◌, arith}
 use Rattle.hx_replay_parts.proofs.ConfigLemmas.{Ends, ends_more, ends_same, no_lines}
 use Rattle.hx_replay_parts.proofs.opening.lines_length.Goals as goal
 use Rattle.hx_replay_parts.proofs.opening.lines_length.Goals.{then-text-i-eq10, else-text-i-eq10, then-ends_line, else-ends_line}

@@ -1,5 +1,5 @@
 use Rattle.hx_replay_parts.specs.FormParts.{IsNumber}
-use Rattle.std.proofs.Common.{ℕ, subst, sym}
+use Rattle.std.proofs.Common.{subst, sym}
 use Rattle.hx_replay_parts.proofs.ConfigLemmas.{other_number, no_number}
 use Rattle.hx_replay_parts.proofs.opening.number_in.Goals as goal
 

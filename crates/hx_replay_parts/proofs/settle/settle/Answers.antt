@@ -1,5 +1,4 @@
-use Rattle.std.proofs.Common.{◌≡◌, true, ◌∙◌, sym, ap, inl, inr, subst}
-use Rattle.hx_base.specs.Shown.{Shown}
+use Rattle.std.proofs.Common.{◌∙◌, sym, ap, inl, inr}
 use Rattle.hx_pool.specs.SeatView.{About}
 use Rattle.hx_replay_parts.specs.FirstRun.{may_rest}
 use Rattle.hx_replay_parts.proofs.settle.settle.Goals as goal
