@@ -64,7 +64,7 @@ pub record CannotFail (m : MemoryLinkNow) : Type 0 where
   pub sent : m.state.sent_count < most_bytes
 
 -- it tells its plan, what was taken stands at the front of the plan, the end was told only where the plan has one and all was taken,
--- where a read waited last, nothing was due at that moment, and where no call may have failed, none did
+-- where a read waited last, nothing was due at that moment, no write waited, and where no call may have failed, none did
 pub record KeepsPlan (m : MemoryLinkNow) : Type 0 where
   pub told : m.state.plan ≡ Some m.plan
   pub taken : m.state.taken ≡ Some (take m.state.taken_count (planned m.plan.pieces))
@@ -72,3 +72,5 @@ pub record KeepsPlan (m : MemoryLinkNow) : Type 0 where
   pub ended : m.state.told_end ≡ true → (m.state.taken_count ≡ length (planned m.plan.pieces)) × IsSome m.plan.end
   pub waits : m.state.read_waited ≡ true → WaitsFor m.plan m.state.taken_count m.state.sent_count m.state.read_wait_at
   pub faults : CannotFail m → m.state.faults ≡ 0
+  -- no write had to wait
+  pub writes : m.state.write_waits ≡ 0
