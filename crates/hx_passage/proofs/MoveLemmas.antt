@@ -1,13 +1,10 @@
 -- Moves one after the other.
-use Rattle.std.proofs.Common.{◌≡◌, ◌≤◌, ℕ, ◌+◌, List, [], ◌++◌, length, take, drop, refl, sym, ap, subst, ◌∙◌, arith, append_assoc, Option, Some, None, option_map}
+use Rattle.std.proofs.Common.{◌≡◌, ◌≤◌, ℕ, List, [], ◌++◌, length, take, drop, refl, sym, ap, subst, ◌∙◌, arith, append_assoc, Option, Some, None, option_map}
 use Rattle.std.proofs.lemmas.List.{append-nil, length-append, length-take, take-append-drop}
-use Rattle.hx_link.specs.declared.answers.Put.{Put}
 use Rattle.hx_link.specs.declared.answers.Put.TheVariants as put
-use Rattle.hx_link.specs.Sources.{PutFits}
 use Rattle.hx_link.specs.Told.{LinkState}
 use Rattle.hx_link.specs.Links.{LinkWrites}
 use Rattle.hx_link.specs.Pipes.{PipeNow, pipe}
-use Rattle.hx_link.specs.Moves.{put_count, WritesFrom}
 use Rattle.hx_conn.specs.Conns.{BusyNow}
 use Rattle.hx_passage.specs.Moves.{IsSameLink, Takes, Sends, TakesInto, SendsFrom, IsSameExchange}
 

@@ -4,7 +4,6 @@ use Rattle.std.specs.Prelude.{OnOk}
 use Rattle.std.proofs.lemmas.List.{append-nil, take-append-drop, drop_all, length-take}
 use Rattle.httparse.specs.Grammar.{RequestHead}
 use Rattle.hx_message.specs.declared.BodyKind.{BodyKind}
-use Rattle.hx_message.specs.Body.{kind_of_method}
 use Rattle.hx_message.specs.Forwarded.{forwarded_request}
 use Rattle.hx_frame.specs.declared.meter.Meter.{Meter}
 use Rattle.hx_frame.specs.declared.progress.MeterState.{MeterState}
@@ -17,8 +16,8 @@ use Rattle.hx_session_parts.specs.declared.asks.Asked.{Asked}
 use Rattle.hx_session_parts.specs.Asks.{IsAskOf, SpellsAsk}
 use Rattle.hx_session_parts.specs.OnWay.{GoesOn}
 use Rattle.hx_session_parts.proofs.OnWayLemmas.{ask_begins, ask_goes_on, ask_ends}
-use Rattle.hx_passage.specs.Moves.{Takes, Sends, TakesInto, SendsFrom, IsSameExchange}
-use Rattle.hx_passage.specs.Requests.{standing, Standing, AskCarries, AskStands, AskHasPassed}
+use Rattle.hx_passage.specs.Moves.{Takes, TakesInto, SendsFrom, IsSameExchange}
+use Rattle.hx_passage.specs.Requests.{standing, Standing, AskStands, AskHasPassed}
 use Rattle.hx_passage.proofs.MoveLemmas.{takes_nothing, takes_both, sends_nothing, sends_both, same_exchange}
 
 pub begins_standing : (client : LinkState) (busy : BusyNow) (from from' to to' : PipeNow) (a : Asked) (g : RequestHead) (meter : Meter) → to.bytes ≡ []

@@ -1,6 +1,7 @@
 //! Heads that are looked for while bytes come.
-ghost use Rattle.std.specs.Prelude.{◌≡◌, ◌<◌, ◌≤◌, IfOk, IfErr};
+ghost use Rattle.std.specs.Prelude.{◌≡◌, ◌<◌, ◌≤◌, max, IfOk, IfErr};
 ghost use Rattle.hx_head.specs.Heads.{head_limit};
+ghost use Rattle.hx_link.specs.Told.{most_bytes};
 ghost use Rattle.hx_session_parts.specs.Asks.{AskLooks, IsAsked};
 ghost use Rattle.hx_session_parts.specs.Answers.{AnswerLooks};
 ghost use Rattle.hx_passage.specs.Moves.{TakesInto, IsSameExchange};
@@ -69,6 +70,7 @@ pub fn find_answer<L: Link>(
     requires room { head_limit ≤ pipe.old.capacity }
     ensures same { IsSameExchange busy.old busy.new }
     ensures takes { TakesInto busy.old.link busy.new.link pipe.old pipe.new }
+    ensures limit { busy.new.link.taken_count ≤ max busy.old.link.taken_count most_bytes }
     ensures found { IfOk result (IsFound method pipe.new.bytes) }
     ensures stops { IfErr result (StopsAnswer method busy.new.link now.0 pipe.new.bytes) }
 {

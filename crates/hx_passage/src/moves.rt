@@ -1,5 +1,5 @@
 //! Bytes that move until no more do.
-ghost use Rattle.std.specs.Prelude.{◌≡◌, ◌<◌, ◌≤◌, length, false, [], OnOk, OnErr, IfErr};
+ghost use Rattle.std.specs.Prelude.{◌≡◌, ◌<◌, ◌≤◌, max, length, false, [], OnOk, OnErr, IfErr};
 ghost use Rattle.hx_link.specs.Told.{most_bytes};
 ghost use Rattle.hx_passage.specs.Moves.{TakesInto, SendsFrom, ReadHalts, WriteHalts, IsSameExchange};
 
@@ -33,6 +33,8 @@ pub fn take_answer<L: Link>(busy: &mut Busy<L>, now: Millis, into: &mut Pipe) ->
     ensures takes { TakesInto busy.old.link busy.new.link into.old into.new }
     ensures some { OnOk result (length into.old.bytes < length into.new.bytes) }
     ensures none { OnErr result (into.new ≡ into.old) }
+    ensures more { OnOk result (busy.old.link.taken_count < busy.new.link.taken_count) }
+    ensures limit { busy.new.link.taken_count ≤ max busy.old.link.taken_count most_bytes }
     ensures halts { IfErr result (ReadHalts busy.new.link now.0) }
 {
     match busy.read_answer(now, into) {

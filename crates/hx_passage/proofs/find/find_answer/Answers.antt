@@ -1,4 +1,4 @@
-use Rattle.std.proofs.Common.{◌≡◌, ◌≤◌, ℕ, List, ap, sym, subst, ◌∙◌, arith}
+use Rattle.std.proofs.Common.{ℕ, List, ap, sym, subst, ◌∙◌, arith}
 use Rattle.hx_link.specs.Pipes.{PipeNow}
 use Rattle.hx_session_parts.specs.Answers.{AnswerLooks, BreaksAnswer}
 use Rattle.hx_session_parts.specs.declared.answers.AnswerLook.TheVariants.{More}
@@ -27,5 +27,6 @@ loop-head-preserved g c =
     record {
       room = omega (arith, c.loop-head.invariant.room, ap (λ (p : PipeNow). p.capacity) c.look_for_answer.ensures.same, takes_capacity _ _ _ _ c.in_default.ensures.takes);
       same = same_exchange c.args.busy.now c.loop-head.busy c.take_answer.new.busy c.loop-head.invariant.same c.in_default.ensures.same;
+      limit = omega (arith, c.loop-head.invariant.limit, c.in_default.ensures.limit);
       takes = on;
     }

@@ -1,4 +1,4 @@
-use Rattle.std.proofs.Common.{◌≡◌, ◌≤◌, ℕ, List, ap, sym, subst, ◌∙◌, arith}
+use Rattle.std.proofs.Common.{ℕ, List, ap, sym, subst, ◌∙◌, arith}
 use Rattle.hx_link.specs.Pipes.{PipeNow}
 use Rattle.hx_session_parts.specs.Asks.{AskLooks}
 use Rattle.hx_session_parts.specs.declared.asks.AskLook.TheVariants.{More}

@@ -1,6 +1,5 @@
-use Rattle.std.proofs.Common.{◌≡◌, ◌≤◌, ◌<◌, ℕ, List, length, drop, ap, ◌∙◌, arith}
-use Rattle.std.proofs.lemmas.List.{length-drop}
-use Rattle.hx_link.specs.Pipes.{PipeNow, pipe}
+use Rattle.std.proofs.Common.{ℕ, List, length, drop, ap, ◌∙◌}
+use Rattle.hx_link.specs.Pipes.{pipe}
 use Rattle.hx_passage.proofs.MoveLemmas.{sends_part}
 use Rattle.hx_passage.proofs.moves.send_once.Goals as goal
 

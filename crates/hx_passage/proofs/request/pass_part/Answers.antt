@@ -1,4 +1,4 @@
-use Rattle.std.proofs.Common.{◌≡◌, ◌-◌, ◌≤◌, ℕ, List, [], length, drop, ap, sym, subst, ◌∙◌, arith}
+use Rattle.std.proofs.Common.{◌-◌, ◌≤◌, length, ap, ◌∙◌, arith}
 use Rattle.hx_frame.specs.Meters.{state_of}
 use Rattle.hx_link.specs.Pipes.{PipeNow}
 use Rattle.hx_passage.proofs.RequestLemmas.{passes_standing, uses_all}

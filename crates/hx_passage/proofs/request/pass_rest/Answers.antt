@@ -1,7 +1,5 @@
-use Rattle.std.proofs.Common.{◌≡◌, ◌≤◌, ◌<◌, ℕ, List, [], length, refl, ap, sym, subst, ◌∙◌, arith}
-use Rattle.hx_frame.specs.declared.progress.MeterState.TheVariants.{Going}
+use Rattle.std.proofs.Common.{length, ap, sym, ◌∙◌, arith}
 use Rattle.hx_link.specs.Pipes.{PipeNow}
-use Rattle.hx_passage.specs.Requests.{standing, AskStands}
 use Rattle.hx_passage.proofs.MoveLemmas.{takes_capacity}
 use Rattle.hx_passage.proofs.RequestLemmas.{has_passed, takes_pipe}
 use Rattle.hx_passage.proofs.request.pass_rest.Goals as goal
