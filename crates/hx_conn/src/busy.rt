@@ -1,6 +1,7 @@
 //! A connection that carries an exchange.
 ghost use Rattle.std.specs.Prelude.{◌≡◌, ◌+◌, ◌<◌, ◌≤◌, ◌||◌, false, length, IfOk, IfErr};
 ghost use Rattle.hx_link.specs.Sources.{GotFits, PutFits, KeepsEnd};
+ghost use Rattle.hx_link.specs.Links.{ReadKeepsLimit};
 ghost use Rattle.hx_link.specs.Nets.{NetDetaches};
 ghost use Rattle.hx_conn.specs.Conns.{IsRested, IsBusy, AskIsWhole};
 ghost use Rattle.hx_link.specs.Moves.{got_count, read_room};
@@ -163,6 +164,7 @@ impl<L: Link> Busy<L> {
         ensures fits { GotFits result (read_room into.old) }
         ensures reads { ReadsAnswer self.old self.new now.0 into.old into.new result }
         ensures ended { KeepsEnd self.old.link.told_end result }
+        ensures limit { ReadKeepsLimit self.old.link.taken_count result }
     {
         let got = read_into(&mut self.conn.link, now, into);
         self.conn.taken += count_of(got) as u64;

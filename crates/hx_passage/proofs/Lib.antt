@@ -1,0 +1,4 @@
+pub mod AnsweringLemmas
+pub mod MoveLemmas
+pub mod ReplyLemmas
+pub mod RequestLemmas
