@@ -2,3 +2,4 @@ pub mod AnsweringLemmas
 pub mod MoveLemmas
 pub mod ReplyLemmas
 pub mod RequestLemmas
+pub mod WholeLemmas
