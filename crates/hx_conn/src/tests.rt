@@ -153,11 +153,33 @@ fn each_cause_is_met_in_its_order(rt: HostRuntime) -> Result<(), Fail> {
     let mut carrying = refused(carrying, &mut net, 2)?;
     end_answer(&mut carrying, 5, false);
     let mut carrying = refused(carrying, &mut net, 3)?;
+    end_answer(&mut carrying, 5, true);
+    let mut carrying = refused(carrying, &mut net, 3)?;
     end_answer(&mut carrying, 6, false);
     let mut carrying = refused(carrying, &mut net, 4)?;
     end_answer(&mut carrying, 6, true);
     let idle = carrying.rest(&mut net).ok().ok_or("refused")?;
     assert_eq!(rt; (idle.uses(), idle.server()), (1, ServerNo(2)));
+    Ok(())
+}
+
+#[test]
+fn an_open_request_is_a_cause_alone(rt: HostRuntime) -> Result<(), Fail> {
+    let alloc = rt.alloc();
+    let mut net = MutedNet::new(alloc)?;
+    let mut pipe = Pipe::new(alloc, 8)?;
+    let script = Script {
+        bytes: "answer",
+        ends: false,
+        fail: None,
+    };
+    let mut carrying = busy(rested(alloc, script)?, &mut net)?;
+    assert_eq!(rt; carry(&rt, &mut carrying, &mut pipe), Got::Bytes(6));
+    end_answer(&mut carrying, 6, true);
+    let mut carrying = refused(carrying, &mut net, 1)?;
+    carrying.ask_ends();
+    let idle = carrying.rest(&mut net).ok().ok_or("refused")?;
+    assert_eq!(rt; idle.uses(), 1);
     Ok(())
 }
 
