@@ -4,3 +4,4 @@ pub mod Reads
 pub mod Causes
 pub mod Staying
 pub mod Writes
+pub mod Limits
