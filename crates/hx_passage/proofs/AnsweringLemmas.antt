@@ -42,9 +42,9 @@ stops_before method start now moment stop.BadRequest i f = absurd f
 pub stops_in_body : (method : MethodKind) (closing : Bool) (start now : Standing) (g : ResponseHead) (kind : BodyKind) (moment : ℕ) (s : Stop) → StopsReply start now (manner method closing) g kind moment s
     → StopsAnswering method start now moment s
 stops_in_body method closing start now g kind moment (stop.Client halt) f = f
-stops_in_body method closing start now g kind moment (stop.Server halt) (halts, from, to, (meter, stands, going)) =
-    (halts, inr (record { closing = closing; head = g; kind = kind; meter = meter; stands = stands; going = going; empty = from }))
-stops_in_body method closing start now g kind moment stop.Broken (meter, stands, bad) =
-    inr (record { closing = closing; head = g; kind = kind; meter = meter; stands = stands; bad = bad })
+stops_in_body method closing start now g kind moment (stop.Server halt) (halts, early, from, to, (meter, stands, going)) =
+    (halts, inr (record { closing = closing; head = g; kind = kind; meter = meter; stands = stands; going = going; empty = from; early = early }))
+stops_in_body method closing start now g kind moment stop.Broken (meter, stands, bad, breaks) =
+    inr (record { closing = closing; head = g; kind = kind; meter = meter; stands = stands; bad = bad; breaks = breaks })
 stops_in_body method closing start now g kind moment (stop.Refused fault) f = absurd f
 stops_in_body method closing start now g kind moment stop.BadRequest f = absurd f

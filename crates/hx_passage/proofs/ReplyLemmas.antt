@@ -1,5 +1,5 @@
 -- An answer on its way.
-use Rattle.std.proofs.Common.{◌≡◌, ◌≤◌, ◌<◌, ℕ, Bool, true, false, List, [], ◌∷◌, ◌++◌, length, take, drop, refl, sym, ap, subst, ◌∙◌, append_assoc, arith}
+use Rattle.std.proofs.Common.{◌≡◌, ◌≤◌, ◌<◌, ℕ, Bool, true, false, IsTrue, List, [], ◌∷◌, ◌++◌, length, take, drop, refl, sym, ap, subst, ◌∙◌, append_assoc, arith}
 use Rattle.std.proofs.lemmas.List.{take-append-drop, length-append, length-take, length-drop}
 use Rattle.httparse.specs.Ascii.{space}
 use Rattle.httparse.specs.Grammar.{ResponseHead, print_response, print_blank, print_version, print_reason, print_end, print_section}
@@ -8,8 +8,9 @@ use Rattle.hx_message.specs.declared.BodyKind.TheVariants.{ToEnd}
 use Rattle.hx_message.specs.Forwarded.{forwarded_answer}
 use Rattle.hx_message.specs.Message.{IsAnswerWith}
 use Rattle.hx_frame.specs.declared.meter.Meter.{Meter}
-use Rattle.hx_frame.specs.declared.progress.MeterState.TheVariants.{Done}
-use Rattle.hx_frame.specs.Meters.{HasUsed, state_of}
+use Rattle.hx_frame.specs.declared.progress.MeterState.{MeterState}
+use Rattle.hx_frame.specs.declared.progress.MeterState.TheVariants.{Done, Bad}
+use Rattle.hx_frame.specs.Meters.{HasUsed, FeedSays, state_of}
 use Rattle.hx_head.specs.declared.head.AnswerHead.{AnswerHead}
 use Rattle.hx_head.specs.Heads.{IsAnswerAt}
 use Rattle.hx_link.specs.Told.{LinkState}
@@ -20,10 +21,11 @@ use Rattle.hx_session_parts.specs.Answers.{IsInterimAt, IsAnswerTo, SpellsAnswer
 use Rattle.hx_session_parts.specs.OnWay.{GoesOn}
 use Rattle.hx_session_parts.proofs.OnWayLemmas.{interims_go_on, answer_begins, answer_goes_on, answer_ends, answer_runs_to_end}
 use Rattle.hx_passage.specs.Moves.{TakesInto, SendsFrom, IsSameExchange}
-use Rattle.hx_passage.specs.Requests.{standing, Standing}
+use Rattle.hx_passage.specs.Requests.{standing, Standing, BreaksBody}
 use Rattle.hx_passage.specs.Replies.{Manner, AnswerCarries, InterimsStand, AnswerStands, AnswerHasPassed}
 use Rattle.hx_passage.specs.declared.answer.Finish.TheVariants as finish
 use Rattle.hx_passage.proofs.MoveLemmas.{takes_both, sends_both, same_exchange}
+use Rattle.hx_passage.proofs.RequestLemmas.{breaks_next}
 
 -- a part of what is at hand leaves, its text is put, and what was put is given as far as it goes
 gives_step : (start : Standing) (busy : BusyNow) (client client' : LinkState) (from from' to to' : List ℕ) (middle last : PipeNow) (taken put part text : List ℕ) → from ≡ part ++ from'
@@ -54,7 +56,7 @@ interim_goes start busy client client' from from' to middle to' h (g, at, short,
       put = s.put ++ text;
       carries = gives_step start busy client client' from.bytes from'.bytes to.bytes to'.bytes middle to' s.taken s.put part text (cut h.length from from' left) (ap (λ (p : PipeNow). p.bytes) (spells g at)) sends refl
           s.carries;
-      way = interims_go_on s.taken s.put from.bytes h g s.way at interim;
+      way = interims_go_on s.taken s.put from.bytes h g s.way at short interim;
     }
 
 pub final_begins : (start : Standing) (busy : BusyNow) (client client' : LinkState) (from from' to middle to' : PipeNow) (a : Answered) (m : Manner) (closing : Bool) (g : ResponseHead) (meter : Meter) → m.closing ≡ closing
@@ -83,6 +85,19 @@ body_goes start busy client client' from from' to middle to' n m g kind old new 
       carries = gives_step start busy client client' from.bytes from'.bytes to.bytes to'.bytes middle to' s.taken s.put part part (cut n from from' left) (ap (λ (p : PipeNow). p.bytes) put) sends refl s.carries;
       way = answer_goes_on m.method m.closing s.taken s.put part g kind old new s.way on;
     }
+
+-- the next byte at hand is one after which no body follows
+pub body_breaks : (start : Standing) (busy : BusyNow) (client client' : LinkState) (from from' to middle to' : PipeNow) (n room : ℕ) (m : Manner) (g : ResponseHead) (kind : BodyKind) (old new : Meter) (now : MeterState)
+    → from' ≡ pipe (drop n from.bytes) from.capacity → middle ≡ pipe (to.bytes ++ take n from.bytes) to.capacity → GoesOn kind (take n from.bytes) old new
+    → ((before : List ℕ) → HasUsed kind before old → FeedSays kind (state_of old) now before (take room from.bytes) n) → (state_of old ≡ Bad → ⊥) → length from.bytes ≤ room → now ≡ Bad
+    → SendsFrom client client' middle to' → AnswerStands start (standing client busy from.bytes to.bytes) m g kind old
+    → (stands : AnswerStands start (standing client' busy from'.bytes to'.bytes) m g kind new) × BreaksBody kind stands.way.body from'.bytes
+unfolding body_goes answer_goes_on
+body_breaks start busy client client' from from' to middle to' n room m g kind old new now left put on says good fits bad sends s = (
+  body_goes start busy client client' from from' to middle to' n m g kind old new left put on sends s,
+  subst (λ (p : PipeNow). BreaksBody kind (s.way.body ++ take n from.bytes) p.bytes) (sym left)
+      (breaks_next kind (state_of old) now s.way.body from.bytes n room (says s.way.body s.way.used) good fits bad),
+)
 
 -- more was taken of the server into the pipe
 takes_more : (start : Standing) (client : LinkState) (busy busy' : BusyNow) (from from' : PipeNow) (to taken put : List ℕ) → TakesInto busy.link busy'.link from from' → IsSameExchange busy busy'
@@ -113,7 +128,7 @@ pub told_whole : (start now : Standing) (m : Manner) (g : ResponseHead) (kind : 
     → AnswerHasPassed start now m g kind finish.Told
 told_whole start now m g kind meter done none s =
     let whole = answer_ends m.method m.closing s.taken s.put g kind meter s.way done in
-    record { taken = s.taken; put = s.put; carries = s.carries; whole = whole.0; goes_out = whole.2; all_given = none; ends = whole.1 }
+    record { taken = s.taken; put = s.put; carries = s.carries; whole = whole.0; short = whole.2; goes_out = whole.3; all_given = none; ends = whole.1 }
 
 pub ended_whole : (start now : Standing) (m : Manner) (g : ResponseHead) (kind : BodyKind) (meter : Meter) → kind ≡ ToEnd → now.busy.link.told_end ≡ true → now.from ≡ [] → now.to ≡ []
     → AnswerStands start now m g kind meter → AnswerHasPassed start now m g kind finish.LinkEnded
@@ -125,10 +140,14 @@ ended_whole start now m g kind meter is ended empty none s =
       put = here.put;
       carries = here.carries;
       whole = subst (λ (k : BodyKind). IsAnswerWith m.method here.taken g k) (sym is) whole.0;
-      goes_out = whole.1;
+      short = whole.1;
+      goes_out = whole.2;
       all_given = none;
       ends = (is, ended, empty);
     }
+
+pub fails_not : (b : Bool) → b ≡ false → IsTrue b → ⊥
+fails_not b failed holds = cc
 
 -- a head has a byte at least
 head_some : (g : ResponseHead) → 1 ≤ length (print_response g)

@@ -1,14 +1,14 @@
 -- A request on its way.
-use Rattle.std.proofs.Common.{◌≡◌, ◌≤◌, ℕ, List, [], ◌++◌, length, take, drop, refl, sym, ap, subst, ◌∙◌, append_assoc, arith, Result, Ok, Err}
+use Rattle.std.proofs.Common.{◌≡◌, ◌≤◌, ◌<◌, ℕ, zero, suc, List, [], ◌∷◌, ◌++◌, length, take, drop, refl, sym, ap, subst, ◌∙◌, append_assoc, add-one, arith, Result, Ok, Err}
 use Rattle.std.specs.Prelude.{OnOk}
-use Rattle.std.proofs.lemmas.List.{append-nil, take-append-drop, drop_all, length-take}
+use Rattle.std.proofs.lemmas.List.{append-nil, take-append-drop, drop_all, take_all, length-take}
 use Rattle.httparse.specs.Grammar.{RequestHead}
 use Rattle.hx_message.specs.declared.BodyKind.{BodyKind}
 use Rattle.hx_message.specs.Forwarded.{forwarded_request}
 use Rattle.hx_frame.specs.declared.meter.Meter.{Meter}
 use Rattle.hx_frame.specs.declared.progress.MeterState.{MeterState}
 use Rattle.hx_frame.specs.declared.progress.MeterState.TheVariants.{Going, Done, Bad}
-use Rattle.hx_frame.specs.Meters.{HasUsed, FeedEnds, FeedSays, state_of}
+use Rattle.hx_frame.specs.Meters.{HasUsed, NoBodyBegins, FeedEnds, FeedSays, state_of}
 use Rattle.hx_link.specs.Told.{LinkState}
 use Rattle.hx_link.specs.Pipes.{PipeNow, pipe}
 use Rattle.hx_conn.specs.Conns.{BusyNow}
@@ -17,7 +17,7 @@ use Rattle.hx_session_parts.specs.Asks.{IsAskOf, SpellsAsk}
 use Rattle.hx_session_parts.specs.OnWay.{GoesOn}
 use Rattle.hx_session_parts.proofs.OnWayLemmas.{ask_begins, ask_goes_on, ask_ends}
 use Rattle.hx_passage.specs.Moves.{Takes, TakesInto, SendsFrom, IsSameExchange}
-use Rattle.hx_passage.specs.Requests.{standing, Standing, AskStands, AskHasPassed}
+use Rattle.hx_passage.specs.Requests.{standing, Standing, AskStands, AskHasPassed, BreaksBody}
 use Rattle.hx_passage.proofs.MoveLemmas.{takes_nothing, takes_both, sends_nothing, sends_both, same_exchange}
 
 pub begins_standing : (client : LinkState) (busy : BusyNow) (from from' to to' : PipeNow) (a : Asked) (g : RequestHead) (meter : Meter) → to.bytes ≡ []
@@ -109,12 +109,13 @@ takes_standing start client client' busy from more to g kind meter takes s =
 pub has_passed : (start now : Standing) (g : RequestHead) (kind : BodyKind) (meter : Meter) → state_of meter ≡ Done → now.to ≡ [] → AskStands start now g kind meter → AskHasPassed start now g
 has_passed start now g kind meter done none s =
     let whole = ask_ends s.taken s.put g kind meter s.way done in
-    record { taken = s.taken; put = s.put; carries = s.carries; whole = whole.0; goes_out = whole.1; all_sent = none }
+    record { taken = s.taken; put = s.put; carries = s.carries; whole = whole.0; short = whole.1; goes_out = whole.2; all_sent = none }
 
 not_going_done : (now : MeterState) → now ≡ Going → now ≡ Done → ⊥
 not_going_done now a b = cc
 
-not_going_bad : (now : MeterState) → now ≡ Going → now ≡ Bad → ⊥
+-- a meter that goes on isn't bad
+pub not_going_bad : (now : MeterState) → now ≡ Going → now ≡ Bad → ⊥
 not_going_bad now a b = cc
 
 -- where a body goes on, all that was at hand and fitted was used
@@ -124,6 +125,45 @@ uses_all kind Going now before from n room says fits going =
     drop_all n from (omega (arith, all, fits, length-take room from))
 uses_all kind Done now before from n room says fits going = absurd (not_going_done now going (says.ended (λ e. cc)).1)
 uses_all kind Bad now before from n room says fits going = absurd (not_going_bad now going (says.ended (λ e. cc)).1)
+
+not_done_bad : (now : MeterState) → now ≡ Done → now ≡ Bad → ⊥
+not_done_bad now a b = cc
+
+-- the byte behind the first n
+next_byte : (n : ℕ) (xs : List ℕ) → n < length xs → (b : ℕ) × (later : List ℕ) × (drop n xs ≡ b ∷ later) × (take (suc n) xs ≡ take n xs ++ b ∷ [])
+next_byte n [] less = absurd (omega (arith, less))
+next_byte zero (b ∷ xs) less = (b, xs, refl, refl)
+next_byte (suc n) (x ∷ xs) less =
+    let next = next_byte n xs (omega (arith, less)) in
+    (next.0, next.1, next.2, ap (λ (ys : List ℕ). x ∷ ys) next.3)
+
+-- where a byte made a meter bad, it is the next at hand
+pub breaks_next : (kind : BodyKind) (old now : MeterState) (before from : List ℕ) (n room : ℕ) → FeedSays kind old now before (take room from) n → (old ≡ Bad → ⊥) → length from ≤ room → now ≡ Bad
+    → BreaksBody kind (before ++ take n from) (drop n from)
+breaks_next kind Going now before from n room says good fits bad =
+    let ends : FeedEnds kind before (take room from) n Bad = subst (λ (s : MeterState). FeedEnds kind before (take room from) n s) bad (says.going refl) in
+    let all : FeedEnds kind before from n Bad = subst (λ (xs : List ℕ). FeedEnds kind before xs n Bad) (take_all room from fits) ends in
+    let next = next_byte n from all.0 in (
+      next.0,
+      next.1,
+      next.2,
+      subst (λ (xs : List ℕ). NoBodyBegins kind xs) (ap (λ (k : ℕ). before ++ take k from) (add-one n) ∙ ap (λ (xs : List ℕ). before ++ xs) next.3 ∙ sym (append_assoc before (take n from) (next.0 ∷ []))) all.1,
+    )
+breaks_next kind Done now before from n room says good fits bad = absurd (not_done_bad now (says.ended (λ e. cc)).1 bad)
+breaks_next kind Bad now before from n room says good fits bad = absurd (good refl)
+
+-- a meter that goes on meets such a byte
+pub breaks_standing : (start : Standing) (client : LinkState) (busy busy' : BusyNow) (from from' to middle to' : PipeNow) (n room : ℕ) (g : RequestHead) (kind : BodyKind) (old new : Meter) (now : MeterState)
+    → from' ≡ pipe (drop n from.bytes) from.capacity → middle ≡ pipe (to.bytes ++ take n from.bytes) to.capacity → GoesOn kind (take n from.bytes) old new
+    → ((before : List ℕ) → HasUsed kind before old → FeedSays kind (state_of old) now before (take room from.bytes) n) → (state_of old ≡ Bad → ⊥) → length from.bytes ≤ room → now ≡ Bad
+    → SendsFrom busy.link busy'.link middle to' → IsSameExchange busy busy' → AskStands start (standing client busy from.bytes to.bytes) g kind old
+    → (stands : AskStands start (standing client busy' from'.bytes to'.bytes) g kind new) × BreaksBody kind stands.way.body from'.bytes
+unfolding passes_standing ask_goes_on
+breaks_standing start client busy busy' from from' to middle to' n room g kind old new now left put on says good fits bad sends same s = (
+  passes_standing start client busy busy' from from' to middle to' n g kind old new left put on sends same s,
+  subst (λ (p : PipeNow). BreaksBody kind (s.way.body ++ take n from.bytes) p.bytes) (sym left)
+      (breaks_next kind (state_of old) now s.way.body from.bytes n room (says s.way.body s.way.used) good fits bad),
+)
 
 -- more was taken of the client into the pipe
 pub takes_pipe : (start : Standing) (client client' : LinkState) (busy : BusyNow) (from from' : PipeNow) (to : List ℕ) (g : RequestHead) (kind : BodyKind) (meter : Meter) → TakesInto client client' from from'

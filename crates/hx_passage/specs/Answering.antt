@@ -11,11 +11,12 @@ use Rattle.hx_frame.specs.Meters.{state_of}
 use Rattle.hx_session_parts.specs.Answers.{AnswerLooks}
 use Rattle.hx_session_parts.specs.declared.answers.AnswerLook.TheVariants as look
 use Rattle.hx_passage.specs.declared.answer.Passed.{Passed}
+use Rattle.hx_passage.specs.declared.halt.Halt.{Halt}
 use Rattle.hx_passage.specs.declared.halt.Stop.{Stop}
 use Rattle.hx_passage.specs.declared.halt.Stop.TheVariants as stop
 use Rattle.hx_passage.specs.Moves.{ReadHalts, WriteHalts}
-use Rattle.hx_passage.specs.Requests.{Standing}
-use Rattle.hx_passage.specs.Replies.{Manner, InterimsStand, AnswerStands, AnswerHasPassed}
+use Rattle.hx_passage.specs.Requests.{Standing, BreaksBody}
+use Rattle.hx_passage.specs.Replies.{Manner, InterimsStand, AnswerStands, AnswerHasPassed, EndsTooEarly}
 
 -- the client's connection closes where the request wanted it, or where the body runs to the end (RFC 9112, section 9.3)
 abbrev pub runs_to_end : BodyKind → Bool
@@ -42,7 +43,7 @@ abbrev pub EndsBeforeHead : MethodKind → Standing → Standing → Type 0
 EndsBeforeHead method start now = InterimsStand start now × AnswerLooks method now.from look.More
 
 -- the body isn't over, and nothing of it is at hand
-pub record EndsInBody (method : MethodKind) (start now : Standing) : Type 0 where
+pub record EndsInBody (method : MethodKind) (start now : Standing) (halt : Halt) : Type 0 where
   pub closing : Bool
   pub head : ResponseHead
   pub kind : BodyKind
@@ -50,6 +51,7 @@ pub record EndsInBody (method : MethodKind) (start now : Standing) : Type 0 wher
   pub stands : AnswerStands start now (manner method closing) head kind meter
   pub going : state_of meter ≡ Going
   pub empty : now.from ≡ []
+  pub early : EndsTooEarly kind halt
 
 -- the head is broken, or a byte of the body is
 pub record BreaksInBody (method : MethodKind) (start now : Standing) : Type 0 where
@@ -59,11 +61,12 @@ pub record BreaksInBody (method : MethodKind) (start now : Standing) : Type 0 wh
   pub meter : Meter
   pub stands : AnswerStands start now (manner method closing) head kind meter
   pub bad : state_of meter ≡ Bad
+  pub breaks : BreaksBody kind stands.way.body now.from
 
 -- why no whole answer passed
 abbrev pub StopsAnswering : MethodKind → Standing → Standing → ℕ → Stop → Type 0
 StopsAnswering method start now moment (stop.Server halt) =
-    ReadHalts now.busy.link moment halt × (EndsBeforeHead method start now ⊎ EndsInBody method start now)
+    ReadHalts now.busy.link moment halt × (EndsBeforeHead method start now ⊎ EndsInBody method start now halt)
 StopsAnswering method start now moment (stop.Client halt) = WriteHalts now.client moment halt
 StopsAnswering method start now moment stop.Broken =
     (InterimsStand start now × AnswerLooks method now.from look.Broken) ⊎ BreaksInBody method start now

@@ -10,13 +10,16 @@ use Rattle.hx_frame.specs.declared.meter.Meter.{Meter}
 use Rattle.hx_frame.specs.declared.progress.MeterState.TheVariants.{Going, Bad}
 use Rattle.hx_frame.specs.Meters.{state_of}
 use Rattle.hx_link.specs.Told.{LinkState}
+use Rattle.hx_head.specs.Limits.{IsShortAnswer}
 use Rattle.hx_session_parts.specs.OnWay.{AreInterimsOnWay, IsAnswerOnWay}
+use Rattle.hx_passage.specs.declared.halt.Halt.{Halt}
+use Rattle.hx_passage.specs.declared.halt.Halt.TheVariants.{Ended}
 use Rattle.hx_passage.specs.declared.halt.Stop.{Stop}
 use Rattle.hx_passage.specs.declared.halt.Stop.TheVariants as stop
 use Rattle.hx_passage.specs.declared.answer.Finish.{Finish}
 use Rattle.hx_passage.specs.declared.answer.Finish.TheVariants as finish
 use Rattle.hx_passage.specs.Moves.{Takes, Sends, ReadHalts, WriteHalts, IsSameExchange}
-use Rattle.hx_passage.specs.Requests.{Standing}
+use Rattle.hx_passage.specs.Requests.{Standing, BreaksBody}
 use Rattle.hx_passage.specs.Finds.{StopsAnswer}
 
 -- since the start the answer's front was taken and put, all of what was put but what the pipe holds was given, and
@@ -59,19 +62,25 @@ pub record AnswerHasPassed (start now : Standing) (m : Manner) (g : ResponseHead
   pub put : List ℕ
   pub carries : AnswerCarries start now taken put
   pub whole : IsAnswerWith m.method taken g kind
+  pub short : IsShortAnswer taken
   pub goes_out : ForwardsAnswer taken m.closing put
   pub all_given : now.to ≡ []
   pub ends : EndsBy now kind how
+
+-- the link's end doesn't end the body
+abbrev pub EndsTooEarly : BodyKind → Halt → Type 0
+EndsTooEarly kind halt = halt ≡ Ended → kind ≡ ToEnd → ⊥
 
 -- why an answer didn't pass whole: the server gives nothing while more is wanted, the client takes nothing, or a byte
 -- came after which no body follows
 abbrev pub StopsReply : Standing → Standing → Manner → ResponseHead → BodyKind → ℕ → Stop → Type 0
 StopsReply start now m g kind moment (stop.Server halt) =
-    ReadHalts now.busy.link moment halt × (now.from ≡ []) × (now.to ≡ [])
+    ReadHalts now.busy.link moment halt × EndsTooEarly kind halt × (now.from ≡ []) × (now.to ≡ [])
     × ((meter : Meter) × AnswerStands start now m g kind meter × (state_of meter ≡ Going))
 StopsReply start now m g kind moment (stop.Client halt) = WriteHalts now.client moment halt
 StopsReply start now m g kind moment stop.Broken =
-    (meter : Meter) × AnswerStands start now m g kind meter × (state_of meter ≡ Bad)
+    (meter : Meter) × (stands : AnswerStands start now m g kind meter) × (state_of meter ≡ Bad)
+    × BreaksBody kind stands.way.body now.from
 StopsReply start now m g kind moment (stop.Refused fault) = ⊥
 StopsReply start now m g kind moment stop.BadRequest = ⊥
 

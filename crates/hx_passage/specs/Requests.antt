@@ -1,5 +1,5 @@
 -- A request on its way from a client's link to a connection.
-use Rattle.std.specs.Prelude.{◌≡◌, ℕ, List, [], ◌++◌}
+use Rattle.std.specs.Prelude.{◌≡◌, ℕ, List, [], ◌∷◌, ◌++◌}
 use Rattle.httparse.specs.Grammar.{RequestHead}
 use Rattle.hx_message.specs.declared.BodyKind.{BodyKind}
 use Rattle.hx_message.specs.Body.{kind_of_method}
@@ -7,9 +7,10 @@ use Rattle.hx_message.specs.Forwarded.{ForwardsRequest}
 use Rattle.hx_message.specs.Message.{IsRequest}
 use Rattle.hx_frame.specs.declared.meter.Meter.{Meter}
 use Rattle.hx_frame.specs.declared.progress.MeterState.TheVariants.{Going, Bad}
-use Rattle.hx_frame.specs.Meters.{state_of}
+use Rattle.hx_frame.specs.Meters.{state_of, NoBodyBegins}
 use Rattle.hx_link.specs.Told.{LinkState}
 use Rattle.hx_conn.specs.Conns.{BusyNow}
+use Rattle.hx_head.specs.Limits.{IsShortRequest}
 use Rattle.hx_session_parts.specs.OnWay.{IsAskOnWay}
 use Rattle.hx_passage.specs.declared.halt.Stop.{Stop}
 use Rattle.hx_passage.specs.declared.halt.Stop.TheVariants as stop
@@ -49,8 +50,14 @@ pub record AskHasPassed (start now : Standing) (g : RequestHead) : Type 0 where
   pub put : List ℕ
   pub carries : AskCarries start now taken put
   pub whole : IsRequest taken (kind_of_method g.method)
+  pub short : IsShortRequest taken
   pub goes_out : ForwardsRequest taken put
   pub all_sent : now.to ≡ []
+
+-- after these bytes of a body the next one is one after which none follows
+abbrev pub BreaksBody : BodyKind → List ℕ → List ℕ → Type 0
+BreaksBody kind body from =
+    (next : ℕ) × (later : List ℕ) × (from ≡ next ∷ later) × NoBodyBegins kind (body ++ next ∷ [])
 
 -- why a request didn't pass whole: the client gives nothing while more is wanted, the server takes nothing, or a byte
 -- came after which no body follows
@@ -60,6 +67,7 @@ StopsRequest start now g kind moment (stop.Client halt) =
     × ((meter : Meter) × AskStands start now g kind meter × (state_of meter ≡ Going))
 StopsRequest start now g kind moment (stop.Server halt) = WriteHalts now.busy.link moment halt
 StopsRequest start now g kind moment stop.BadRequest =
-    (meter : Meter) × AskStands start now g kind meter × (state_of meter ≡ Bad)
+    (meter : Meter) × (stands : AskStands start now g kind meter) × (state_of meter ≡ Bad)
+    × BreaksBody kind stands.way.body now.from
 StopsRequest start now g kind moment (stop.Refused fault) = ⊥
 StopsRequest start now g kind moment stop.Broken = ⊥

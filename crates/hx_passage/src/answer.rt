@@ -1,16 +1,18 @@
 //! The way of an answer.
-ghost use Rattle.std.specs.Prelude.{◌≡◌, ◌≤◌, [], OnOk, IfErr, IfOk, ◌<◌, length, false};
+ghost use Rattle.std.specs.Prelude.{◌≡◌, ◌≤◌, ◌↔◌, ℕ, List, [], IsTrue, OnOk, IfErr, IfOk, ◌<◌, length, false};
 ghost use Rattle.httparse.specs.Grammar as grammar;
 ghost use Rattle.hx_message.specs.declared.BodyKind.{BodyKind};
-ghost use Rattle.hx_frame.specs.declared.progress.MeterState.TheVariants.{Going};
-ghost use Rattle.hx_frame.specs.Meters.{state_of};
+ghost use Rattle.hx_message.specs.declared.BodyKind.TheVariants.{ToEnd};
+ghost use Rattle.hx_frame.specs.declared.progress.MeterState.TheVariants.{Going, Bad};
+ghost use Rattle.hx_frame.specs.Meters.{HasUsed, state_of};
 ghost use Rattle.hx_head.specs.Heads.{head_limit};
 ghost use Rattle.hx_conn.specs.Conns.{BusyNow};
 ghost use Rattle.hx_session_parts.specs.Asks.{most_text};
 ghost use Rattle.hx_session_parts.specs.Answers.{IsInterimAt, IsAnswerTo, AnswerLooks};
 ghost use Rattle.hx_session_parts.specs.declared.answers.AnswerLook.TheVariants as look;
+ghost use Rattle.hx_passage.specs.declared.halt.Halt.TheVariants.{Ended};
 ghost use Rattle.hx_passage.specs.Moves.{WriteHalts};
-ghost use Rattle.hx_passage.specs.Requests.{standing, Standing};
+ghost use Rattle.hx_passage.specs.Requests.{standing, Standing, BreaksBody};
 ghost use Rattle.hx_passage.specs.Answering.{closes, IsPassed, StopsAnswering};
 ghost use Rattle.hx_passage.specs.Replies.{Manner, InterimsStand, AnswerStands, AnswerHasPassed, StopsReply, StopsFinal};
 
@@ -75,6 +77,7 @@ fn give_head<L: Link>(
         → m.closing ≡ closing → IsAnswerTo m.method way.old.from.bytes answered.now g
         → InterimsStand start (standing (L.state client.old) busy way.old.from.bytes way.old.to.bytes)
         → AnswerStands start (standing (L.state client.new) busy way.new.from.bytes way.new.to.bytes) m g answered.now.kind meter) }
+    ensures good { IfOk result (λ meter. state_of meter ≡ Bad → ⊥) }
     ensures all { OnOk result (way.new.to.bytes ≡ []) }
     ensures from { way.new.from.capacity ≡ way.old.from.capacity }
     ensures to { way.new.to.capacity ≡ way.old.to.capacity }
@@ -90,7 +93,8 @@ fn give_head<L: Link>(
     }
 }
 
-/// Passes the bytes of a body that are at hand, and gives them to the client. Where the body goes on none is left.
+/// Passes the bytes of a body that are at hand, and gives them to the client. Where the body goes on none is left; where
+/// it breaks the next one is a byte after which none follows.
 fn give_part<L: Link>(
     client: &mut L,
     meter: &mut Meter,
@@ -99,12 +103,18 @@ fn give_part<L: Link>(
 ) -> Result<MeterState, Halt>
     requires empty { way.old.to.bytes ≡ [] }
     requires fits { way.old.from.capacity ≤ way.old.to.capacity }
+    requires good { state_of meter.old ≡ Bad → ⊥ }
     ensures goes { (start : Standing) (m : Manner) (g : grammar.ResponseHead) (kind : BodyKind) (busy : BusyNow)
         → AnswerStands start (standing (L.state client.old) busy way.old.from.bytes way.old.to.bytes) m g kind meter.old
         → AnswerStands start (standing (L.state client.new) busy way.new.from.bytes way.new.to.bytes) m g kind meter.new }
     ensures emptied { (start : Standing) (m : Manner) (g : grammar.ResponseHead) (kind : BodyKind) (busy : BusyNow)
         → AnswerStands start (standing (L.state client.old) busy way.old.from.bytes way.old.to.bytes) m g kind meter.old
         → IfOk result (λ s. s ≡ Going → way.new.from.bytes ≡ []) }
+    ensures breaks { (start : Standing) (m : Manner) (g : grammar.ResponseHead) (kind : BodyKind) (busy : BusyNow)
+        → AnswerStands start (standing (L.state client.old) busy way.old.from.bytes way.old.to.bytes) m g kind meter.old
+        → IfOk result (λ s. s ≡ Bad
+        → (stands : AnswerStands start (standing (L.state client.new) busy way.new.from.bytes way.new.to.bytes) m g kind meter.new)
+        × BreaksBody kind stands.way.body way.new.from.bytes) }
     ensures state { IfOk result (λ s. s ≡ state_of meter.new) }
     ensures all { OnOk result (way.new.to.bytes ≡ []) }
     ensures from { way.new.from.capacity ≡ way.old.from.capacity }
@@ -153,6 +163,16 @@ fn find_final<L: Link>(
     }
 }
 
+/// Whether the halt of the server's link ends the body: the link ended, and the body runs to its end.
+fn ends_body(meter: &Meter, halt: Halt) -> bool
+    ensures { (kind : BodyKind) (used : List ℕ) → HasUsed kind used meter.now → IsTrue result ↔ ((halt ≡ Ended) × (kind ≡ ToEnd)) }
+{
+    match halt {
+        Halt::Ended => meter.at_end(),
+        Halt::Waits | Halt::Failed => false,
+    }
+}
+
 /// Passes the rest of an answer on, while the server gives more.
 fn pass_body_on<L: Link>(
     client: &mut L,
@@ -166,6 +186,7 @@ fn pass_body_on<L: Link>(
     requires empty { way.old.to.bytes ≡ [] }
     requires from { head_limit ≤ way.old.from.capacity }
     requires fits { way.old.from.capacity ≤ way.old.to.capacity }
+    requires good { state_of meter.old ≡ Bad → ⊥ }
     ensures passed { IfOk result (λ how. (start : Standing) (m : Manner) (g : grammar.ResponseHead) (kind : BodyKind) → AnswerStands start
         (standing (L.state client.old) busy.old way.old.from.bytes way.old.to.bytes) m g kind meter.old
         → AnswerHasPassed start (standing (L.state client.new) busy.new way.new.from.bytes way.new.to.bytes) m g kind how) }
@@ -180,10 +201,12 @@ fn pass_body_on<L: Link>(
             Ok(MeterState::Bad) => return Err(Stop::Broken),
             Err(halt) => return Err(Stop::Client(halt)),
         }
-        match take_answer(busy, now, &mut way.from) {
-            Ok(()) => {}
-            Err(Halt::Ended) if meter.at_end() => return Ok(Finish::LinkEnded),
-            Err(halt) => return Err(Stop::Server(halt)),
+        if let Err(halt) = take_answer(busy, now, &mut way.from) {
+            return if ends_body(meter, halt) {
+                Ok(Finish::LinkEnded)
+            } else {
+                Err(Stop::Server(halt))
+            };
         }
     }
 }

@@ -2,14 +2,14 @@
 ghost use Rattle.std.specs.Prelude.{◌≡◌, ◌≤◌, ◌<◌, false, [], OnOk, IfErr, IfOk, length};
 ghost use Rattle.httparse.specs.Grammar as grammar;
 ghost use Rattle.hx_message.specs.declared.BodyKind.{BodyKind};
-ghost use Rattle.hx_frame.specs.declared.progress.MeterState.TheVariants.{Going};
+ghost use Rattle.hx_frame.specs.declared.progress.MeterState.TheVariants.{Going, Bad};
 ghost use Rattle.hx_frame.specs.Meters.{state_of};
 ghost use Rattle.hx_head.specs.Heads.{head_limit};
 ghost use Rattle.hx_session_parts.specs.Asks.{most_text, IsAsked, IsAskOf};
 ghost use Rattle.hx_link.specs.Told.{LinkState};
 ghost use Rattle.hx_conn.specs.Conns.{BusyNow};
 ghost use Rattle.hx_passage.specs.Moves.{WriteHalts};
-ghost use Rattle.hx_passage.specs.Requests.{standing, Standing, AskStands, AskHasPassed, StopsRequest};
+ghost use Rattle.hx_passage.specs.Requests.{standing, Standing, AskStands, AskHasPassed, BreaksBody, StopsRequest};
 
 use crate::halt::{Halt, Stop};
 use crate::moves::{send_all, take_more};
@@ -35,6 +35,7 @@ fn begin_ask(from: &mut Pipe, to: &mut Pipe, asked: &Asked) -> Meter
     requires room { most_text ≤ to.old.capacity }
     ensures begins { (g : grammar.RequestHead) (client : LinkState) (busy : BusyNow) → IsAskOf from.old.bytes asked.now g
         → AskStands (standing client busy from.old.bytes []) (standing client busy from.new.bytes to.new.bytes) g asked.now.kind result }
+    ensures good { state_of result ≡ Bad → ⊥ }
     ensures from { from.new.capacity ≡ from.old.capacity }
     ensures to { to.new.capacity ≡ to.old.capacity }
 {
@@ -57,6 +58,7 @@ fn send_head<L: Link>(
     requires unended { busy.old.exchange.asked ≡ false }
     ensures begins { IfOk result (λ meter. (g : grammar.RequestHead) (client : LinkState) → IsAskOf way.old.from.bytes asked.now g
         → AskStands (standing client busy.old way.old.from.bytes []) (standing client busy.new way.new.from.bytes way.new.to.bytes) g asked.now.kind meter) }
+    ensures good { IfOk result (λ meter. state_of meter ≡ Bad → ⊥) }
     ensures all { OnOk result (way.new.to.bytes ≡ []) }
     ensures unended { busy.new.exchange.asked ≡ false }
     ensures from { way.new.from.capacity ≡ way.old.from.capacity }
@@ -70,7 +72,8 @@ fn send_head<L: Link>(
     }
 }
 
-/// Passes the bytes of a body that are at hand, and writes them. Where the body goes on none is left.
+/// Passes the bytes of a body that are at hand, and writes them. Where the body goes on none is left; where it breaks
+/// the next one is a byte after which none follows.
 fn pass_part<L: Link>(
     busy: &mut Busy<L>,
     meter: &mut Meter,
@@ -80,12 +83,18 @@ fn pass_part<L: Link>(
     requires unended { busy.old.exchange.asked ≡ false }
     requires empty { way.old.to.bytes ≡ [] }
     requires fits { way.old.from.capacity ≤ way.old.to.capacity }
+    requires good { state_of meter.old ≡ Bad → ⊥ }
     ensures goes { (start : Standing) (g : grammar.RequestHead) (kind : BodyKind) (client : LinkState)
         → AskStands start (standing client busy.old way.old.from.bytes way.old.to.bytes) g kind meter.old
         → AskStands start (standing client busy.new way.new.from.bytes way.new.to.bytes) g kind meter.new }
     ensures emptied { (start : Standing) (g : grammar.RequestHead) (kind : BodyKind) (client : LinkState)
         → AskStands start (standing client busy.old way.old.from.bytes way.old.to.bytes) g kind meter.old
         → IfOk result (λ s. s ≡ Going → way.new.from.bytes ≡ []) }
+    ensures breaks { (start : Standing) (g : grammar.RequestHead) (kind : BodyKind) (client : LinkState)
+        → AskStands start (standing client busy.old way.old.from.bytes way.old.to.bytes) g kind meter.old
+        → IfOk result (λ s. s ≡ Bad
+        → (stands : AskStands start (standing client busy.new way.new.from.bytes way.new.to.bytes) g kind meter.new)
+        × BreaksBody kind stands.way.body way.new.from.bytes) }
     ensures state { IfOk result (λ s. s ≡ state_of meter.new) }
     ensures all { OnOk result (way.new.to.bytes ≡ []) }
     ensures from { way.new.from.capacity ≡ way.old.from.capacity }
@@ -116,6 +125,7 @@ fn pass_rest<L: Link>(
     requires from { head_limit ≤ way.old.from.capacity }
     requires fits { way.old.from.capacity ≤ way.old.to.capacity }
     requires unended { busy.old.exchange.asked ≡ false }
+    requires good { state_of meter.old ≡ Bad → ⊥ }
     ensures passed { OnOk result ((start : Standing) (g : grammar.RequestHead) (kind : BodyKind) → AskStands start
         (standing (L.state client.old) busy.old way.old.from.bytes way.old.to.bytes) g kind meter.old
         → AskHasPassed start (standing (L.state client.new) busy.new way.new.from.bytes way.new.to.bytes) g) }

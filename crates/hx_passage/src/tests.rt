@@ -112,71 +112,87 @@ const SIMPLE: Case = Case {
     ends: false,
 };
 
-/// Exchanges, what the client was given, whether its connection closes, and what told the end.
-fn cases() -> [(Case, &'static str, bool, Finish); 5] {
-    let close = [
-        "GET /a HTTP/1.1\r\nHost: h\r\nConnection: close, X-Q\r\n",
-        "X-Q: 1\r\n\r\n",
-    ];
-    let interim = [
-        "HTTP/1.1 100 Continue\r\n\r",
-        "\nHTTP/1.1 200 OK\r\nContent-Length: 2\r\n\r\nhi",
-    ];
-    let to_end = ["HTTP/1.1 200 OK\r\n\r\nhel", "lo"];
-    let chunks = [
-        "HTTP/1.1 200 OK\r\nTransfer-Encoding: chunked\r\n\r\n3",
-        "\r\nabc\r\n0\r\nX: y\r\n\r\n",
-    ];
-    [
+/// A request that wants its connection closed, an interim answer before the final one, a body that runs to the end, and
+/// chunks.
+const CLOSE: [&str; 2] = [
+    "GET /a HTTP/1.1\r\nHost: h\r\nConnection: close, X-Q\r\n",
+    "X-Q: 1\r\n\r\n",
+];
+
+const INTERIM: [&str; 2] = [
+    "HTTP/1.1 100 Continue\r\n\r",
+    "\nHTTP/1.1 200 OK\r\nContent-Length: 2\r\n\r\nhi",
+];
+
+const TO_END: [&str; 2] = ["HTTP/1.1 200 OK\r\n\r\nhel", "lo"];
+
+const CHUNKS: [&str; 2] = [
+    "HTTP/1.1 200 OK\r\nTransfer-Encoding: chunked\r\n\r\n3",
+    "\r\nabc\r\n0\r\nX: y\r\n\r\n",
+];
+
+/// What the client was given, whether its connection closes, and what told the end.
+type Outcome = (&'static str, bool, Finish);
+
+const CASES: [(Case, Outcome); 5] = [
+    (
+        SIMPLE,
         (
-            SIMPLE,
             "HTTP/1.1 200 OK\r\nContent-Length: 2\r\n\r\nhi",
             false,
             Finish::Told,
         ),
+    ),
+    (
+        Case {
+            ask: CLOSE,
+            ..SIMPLE
+        },
         (
-            Case {
-                ask: close,
-                ..SIMPLE
-            },
             "HTTP/1.1 200 OK\r\nContent-Length: 2\r\nConnection: close\r\n\r\nhi",
             true,
             Finish::Told,
         ),
+    ),
+    (
+        Case {
+            answer: INTERIM,
+            ..SIMPLE
+        },
         (
-            Case {
-                answer: interim,
-                ..SIMPLE
-            },
             "HTTP/1.1 100 Continue\r\n\r\nHTTP/1.1 200 OK\r\nContent-Length: 2\r\n\r\nhi",
             false,
             Finish::Told,
         ),
+    ),
+    (
+        Case {
+            answer: TO_END,
+            ends: true,
+            ..SIMPLE
+        },
         (
-            Case {
-                answer: to_end,
-                ends: true,
-                ..SIMPLE
-            },
             "HTTP/1.1 200 OK\r\nConnection: close\r\n\r\nhello",
             true,
             Finish::LinkEnded,
         ),
+    ),
+    (
+        Case {
+            answer: CHUNKS,
+            ..SIMPLE
+        },
         (
-            Case {
-                answer: chunks,
-                ..SIMPLE
-            },
             "HTTP/1.1 200 OK\r\nTransfer-Encoding: chunked\r\n\r\n3\r\nabc\r\n0\r\nX: y\r\n\r\n",
             false,
             Finish::Told,
         ),
-    ]
-}
+    ),
+];
 
 #[test]
 fn an_exchange_passes_in_pieces_and_with_little_room(rt: HostRuntime) -> Result<(), Fail> {
-    for (case, gave, closing, finish) in cases() {
+    for (case, (gave, closing, finish)) in CASES {
         for narrow in [true, false] {
             let (client, server, passed) = exchange(rt.alloc(), case, narrow)?;
             assert!(rt; server.sent.as_slice() == SENT.as_bytes());

@@ -137,11 +137,11 @@ answer_grows g closing =
     )
 
 -- the fields that are read are as many as those of the head, at most 100
-few_fields : (bytes : List ℕ) (h : request.RequestHead) (g : RequestHead) → IsRequestAt bytes h g → length g.fields ≤ 100
+pub few_fields : (bytes : List ℕ) (h : request.RequestHead) (g : RequestHead) → IsRequestAt bytes h g → length g.fields ≤ 100
 few_fields bytes h g at =
     omega (arith, ap length at.fields, length-map g.fields name_and_value, length-map (take h.count h.fields) (field_in bytes), length-take h.count h.fields, at.count)
 
-few_answer_fields : (bytes : List ℕ) (h : answer.AnswerHead) (g : ResponseHead) → IsAnswerAt bytes h g → length g.fields ≤ 100
+pub few_answer_fields : (bytes : List ℕ) (h : answer.AnswerHead) (g : ResponseHead) → IsAnswerAt bytes h g → length g.fields ≤ 100
 few_answer_fields bytes h g at =
     omega (arith, ap length at.fields, length-map g.fields name_and_value, length-map (take h.count h.fields) (field_in bytes), length-take h.count h.fields, at.count)
 

@@ -1,6 +1,6 @@
 -- Messages on their way: what was taken of one link, and what was put into the pipe to the other (RFC 9112, sections
 -- 2.1 and 6; RFC 9110, section 15.2).
-use Rattle.std.specs.Prelude.{◌≡◌, ℕ, Bool, false, List, [], ◌++◌, take, Ok}
+use Rattle.std.specs.Prelude.{◌≡◌, ℕ, Bool, false, List, [], ◌++◌, length, take, Ok}
 use Rattle.std.specs.List.{flat_map}
 use Rattle.httparse.specs.Grammar.{RequestHead, ResponseHead, ReadsResponse}
 use Rattle.hx_message.specs.declared.MethodKind.{MethodKind}
@@ -8,7 +8,7 @@ use Rattle.hx_message.specs.declared.MethodKind.TheVariants.{Connect}
 use Rattle.hx_message.specs.declared.BodyKind.{BodyKind}
 use Rattle.hx_message.specs.declared.BodyKind.TheVariants.{ToEnd}
 use Rattle.hx_message.specs.Body.{kind_of_method, request_kind, answer_kind}
-use Rattle.hx_message.specs.Forwarded.{BeginsRequest, IsInterim, IsFinal, BeginsInterims, ForwardsRequest, ForwardsAnswer, forwarded_request, forwarded_answer}
+use Rattle.hx_message.specs.Forwarded.{BeginsRequest, IsInterim, IsFinal, ForwardsRequest, ForwardsAnswer, forwarded_request, forwarded_answer}
 use Rattle.hx_message.specs.Message.{IsRequest, IsAnswerWith}
 use Rattle.hx_head.specs.declared.head.AnswerHead.{AnswerHead}
 use Rattle.hx_head.specs.Heads.{IsAnswerAt}
@@ -18,12 +18,14 @@ use Rattle.hx_frame.specs.Meters.{HasUsed, state_of}
 use Rattle.hx_session_parts.specs.declared.asks.Asked.{Asked}
 use Rattle.hx_session_parts.specs.declared.answers.Answered.{Answered}
 use Rattle.hx_session_parts.specs.Asks.{IsAskOf}
-use Rattle.hx_session_parts.specs.Answers.{IsAnswerTo}
+use Rattle.hx_session_parts.specs.Answers.{IsShortHead, IsAnswerTo}
+use Rattle.hx_head.specs.Limits.{IsShort, IsShortRequest, BeginsShortInterims, IsShortAnswer}
 
--- the head g was spelled anew, and behind it the bytes of the body that the meter used
+-- the head g, within the limits, was spelled anew, and behind it the bytes of the body that the meter used
 pub record IsAskOnWay (taken put : List ℕ) (g : RequestHead) (kind : BodyKind) (meter : Meter) : Type 0 where
   pub body : List ℕ
   pub begins : BeginsRequest taken g body
+  pub short : IsShort taken body (length g.fields)
   pub put_is : put ≡ forwarded_request g ++ body
   pub framed : request_kind g ≡ Ok kind
   pub method : kind_of_method g.method ≡ Connect → ⊥
@@ -48,22 +50,24 @@ abbrev pub AskEnds : Type 0
 AskEnds =
     (taken put : List ℕ) (g : RequestHead) (kind : BodyKind) (meter : Meter)
     → IsAskOnWay taken put g kind meter → state_of meter ≡ Done
-    → IsRequest taken (kind_of_method g.method) × ForwardsRequest taken put
+    → IsRequest taken (kind_of_method g.method) × IsShortRequest taken × ForwardsRequest taken put
 
--- only interim heads were taken, and each was spelled anew
+-- only interim heads within the limits were taken, and each was spelled anew
 abbrev pub AreInterimsOnWay : List ℕ → List ℕ → Type 0
 AreInterimsOnWay taken put =
-    (gs : List ResponseHead) × BeginsInterims taken gs [] × (put ≡ flat_map (λ g. forwarded_answer g false) gs)
+    (gs : List ResponseHead) × BeginsShortInterims taken gs [] × (put ≡ flat_map (λ g. forwarded_answer g false) gs)
 
--- behind the interim heads the final head g was spelled anew, and behind it the bytes of the body that the meter used
+-- behind the interim heads the final head g, within the limits too, was spelled anew, and behind it the bytes of the
+-- body that the meter used
 pub record IsAnswerOnWay (method : MethodKind) (closing : Bool) (taken put : List ℕ) (g : ResponseHead)
     (kind : BodyKind) (meter : Meter) : Type 0 where
   pub interims : List ResponseHead
   pub rest : List ℕ
-  pub begins : BeginsInterims taken interims rest
+  pub begins : BeginsShortInterims taken interims rest
   pub body : List ℕ
   pub reads : ReadsResponse rest g body
   pub final : IsFinal g
+  pub short : IsShort rest body (length g.fields)
   pub put_is : put ≡ flat_map (λ k. forwarded_answer k false) interims ++ (forwarded_answer g closing ++ body)
   pub framed : answer_kind method g ≡ Ok kind
   pub used : HasUsed kind body meter
@@ -71,7 +75,7 @@ pub record IsAnswerOnWay (method : MethodKind) (closing : Bool) (taken put : Lis
 abbrev pub InterimsGoOn : Type 0
 InterimsGoOn =
     (taken put bytes : List ℕ) (h : AnswerHead) (g : ResponseHead) → AreInterimsOnWay taken put → IsAnswerAt bytes h g
-    → IsInterim g → AreInterimsOnWay (taken ++ take h.length bytes) (put ++ forwarded_answer g false)
+    → IsShortHead h → IsInterim g → AreInterimsOnWay (taken ++ take h.length bytes) (put ++ forwarded_answer g false)
 
 abbrev pub AnswerBegins : Type 0
 AnswerBegins =
@@ -90,10 +94,10 @@ abbrev pub AnswerEnds : Type 0
 AnswerEnds =
     (method : MethodKind) (closing : Bool) (taken put : List ℕ) (g : ResponseHead) (kind : BodyKind) (meter : Meter)
     → IsAnswerOnWay method closing taken put g kind meter → state_of meter ≡ Done
-    → IsAnswerWith method taken g kind × (kind ≡ ToEnd → ⊥) × ForwardsAnswer taken closing put
+    → IsAnswerWith method taken g kind × (kind ≡ ToEnd → ⊥) × IsShortAnswer taken × ForwardsAnswer taken closing put
 
 abbrev pub AnswerRunsToEnd : Type 0
 AnswerRunsToEnd =
     (method : MethodKind) (closing : Bool) (taken put : List ℕ) (g : ResponseHead) (meter : Meter)
     → IsAnswerOnWay method closing taken put g ToEnd meter
-    → IsAnswerWith method taken g ToEnd × ForwardsAnswer taken closing put
+    → IsAnswerWith method taken g ToEnd × IsShortAnswer taken × ForwardsAnswer taken closing put

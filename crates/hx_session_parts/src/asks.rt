@@ -1,7 +1,8 @@
 //! Requests: their heads are looked at, and spelled anew into the pipe to the server.
 ghost use Rattle.std.specs.Prelude.{◌≡◌, ◌↔◌, IsTrue, IfSome, IfNone, ◌<◌, ◌+◌, length, []};
 ghost use Rattle.hx_message.specs.declared.MethodKind.TheVariants.{Connect};
-ghost use Rattle.hx_frame.specs.Meters.{HasUsed};
+ghost use Rattle.hx_frame.specs.declared.progress.MeterState.TheVariants.{Bad};
+ghost use Rattle.hx_frame.specs.Meters.{HasUsed, state_of};
 ghost use Rattle.hx_head.specs.Causes.{code_of};
 ghost use Rattle.hx_head.specs.declared.refusal.Refusal.{Refusal};
 ghost use Rattle.hx_session_parts.specs.Asks.{most_text, AskLooks, IsAsked, SpellsAsk, HasNoRoom, fault_of_cause, fault_of_framing};
@@ -89,6 +90,7 @@ pub fn look_ask(bytes: &[u8]) -> AskLook
 pub fn spell_ask(from: &mut Pipe, to: &mut Pipe, asked: &Asked) -> Option<Meter>
     requires asked { IsAsked from.old.bytes asked.now }
     ensures spelled { IfSome result (λ meter. SpellsAsk from.old from.new to.old to.new asked.now × HasUsed asked.now.kind [] meter) }
+    ensures good { IfSome result (λ meter. state_of meter ≡ Bad → ⊥) }
     ensures none { IfNone result ((from.new ≡ from.old) × (to.new ≡ to.old) × HasNoRoom from.old.bytes to.old asked.now) }
     ensures room { IfNone result (to.old.capacity < length to.old.bytes + most_text) }
 {

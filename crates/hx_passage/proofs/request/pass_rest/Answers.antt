@@ -1,7 +1,7 @@
 use Rattle.std.proofs.Common.{length, ap, sym, ◌∙◌, arith}
 use Rattle.hx_link.specs.Pipes.{PipeNow}
 use Rattle.hx_passage.proofs.MoveLemmas.{takes_capacity}
-use Rattle.hx_passage.proofs.RequestLemmas.{has_passed, takes_pipe}
+use Rattle.hx_passage.proofs.RequestLemmas.{has_passed, takes_pipe, not_going_bad}
 use Rattle.hx_passage.proofs.request.pass_rest.Goals as goal
 
 pub returns-in-Ok-Done-clause-passed : goal.returns-in-Ok-Done-clause-passed
@@ -14,7 +14,8 @@ pub returns-in-Ok-Bad-clause-stops : goal.returns-in-Ok-Bad-clause-stops
 returns-in-Ok-Bad-clause-stops g c =
     let part = c.in-Ok-Bad.ensures in
     λ start head kind s.
-    (c.pass_part.new.meter, part.goes start head kind _ (c.loop-halt.invariant.stands start head kind s), sym part.state ∙ c.in-Ok-Bad.field-0-is)
+    let broken = part.breaks start head kind _ (c.loop-halt.invariant.stands start head kind s) c.in-Ok-Bad.field-0-is in
+    (c.pass_part.new.meter, broken.0, sym part.state ∙ c.in-Ok-Bad.field-0-is, broken.1)
 
 pub take_more-requires : goal.take_more-requires
 take_more-requires g c =
@@ -56,4 +57,5 @@ loop-halt-preserved g c =
       from = omega (arith, i.from, part.from, takes_capacity _ _ _ _ took.takes);
       fits = omega (arith, i.fits, part.from, part.to, takes_capacity _ _ _ _ took.takes);
       unended = part.unended;
+      good = not_going_bad _ (sym part.state ∙ c.in-Ok-Going.field-0-is);
     }

@@ -1,6 +1,8 @@
 use Rattle.std.proofs.Common.{◌≡◌, ◌≤◌, ◌-◌, [], false}
 use Rattle.httparse.specs.Grammar.{RequestHead}
 use Rattle.hx_message.specs.declared.BodyKind.{BodyKind}
+use Rattle.hx_frame.specs.declared.progress.MeterState.TheVariants.{Bad}
+use Rattle.hx_frame.specs.Meters.{state_of}
 use Rattle.hx_head.specs.Heads.{head_limit}
 use Rattle.hx_link.specs.Told.{most_bytes}
 use Rattle.hx_passage.specs.Requests.{standing, Standing, AskStands}
@@ -17,6 +19,7 @@ invariant-loop-halt g l = record {
   from : head_limit ≤ l.way.from.capacity;
   fits : l.way.from.capacity ≤ l.way.to.capacity;
   unended : l.busy.exchange.asked ≡ false;
+  good : state_of l.meter ≡ Bad → ⊥;
 }
 
 abbrev pub decreases-loop-halt : goal.decreases-loop-halt
