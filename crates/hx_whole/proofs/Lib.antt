@@ -1,0 +1,5 @@
+pub mod AnswerLemmas
+pub mod FramingLemmas
+pub mod FrontLemmas
+pub mod InterimLemmas
+pub mod RequestLemmas
