@@ -78,6 +78,14 @@ impl<L: Link> Rested<L> {
         self.conn.uses
     }
 
+    /// Its link, to look at.
+    pub fn link(&self) -> &L
+        ensures link { L.state result.now ≡ self.now.link }
+        ensures meaning { IsRested self.now }
+    {
+        &self.conn.link
+    }
+
     /// Whether it rests on: one read into one byte has to wait.
     ///
     /// # Errors

@@ -10,6 +10,8 @@ use hx_base::{Bytes, Items, NoMemory};
 pub struct LinkBytes {
     pub sent: Bytes,
     pub taken: Bytes,
+    /// It told its end.
+    pub ended: bool,
 }
 
 /// The first bytes of the pieces. It takes memory only where they stand in more than one piece.

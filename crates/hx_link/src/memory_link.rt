@@ -132,18 +132,23 @@ impl MemoryLink {
         self.starved
     }
 
-    /// All its bytes. It takes memory only where bytes of more than one piece were taken.
+    /// All its bytes, and whether it told its end. It takes memory only where bytes of more than one piece were taken.
     ///
     /// # Errors
     /// `NoMemory` for want of memory.
     pub fn into_bytes(self) -> Result<LinkBytes, NoMemory>
         ensures sent { IfOk result (λ bytes. Some bytes.sent ≡ self.state.sent) }
         ensures taken { IfOk result (λ bytes. Some bytes.taken ≡ self.state.taken) }
+        ensures ended { IfOk result (λ bytes. bytes.ended ≡ self.state.told_end) }
         ensures plan { KeepsPlan self }
     {
         let taken = join_pieces(self.plan.pieces, self.at.taken)?;
         let sent = Bytes::from_vec(self.sent);
-        Ok(LinkBytes { sent, taken })
+        Ok(LinkBytes {
+            sent,
+            taken,
+            ended: self.ended,
+        })
     }
 }
 
