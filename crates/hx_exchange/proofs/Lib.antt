@@ -1,0 +1,11 @@
+pub mod Answering
+pub mod Asking
+pub mod Beginning
+pub mod CarryLemmas
+pub mod Ending
+pub mod Finding
+pub mod Links
+pub mod Passing
+pub mod Plans
+pub mod Runs
+pub mod Stopping
