@@ -1,0 +1,6 @@
+pub mod ExchangeTruth
+pub mod OneExchange
+pub mod SeatHistory
+pub mod Seats
+pub mod Telling
+pub mod TrueTranscript
