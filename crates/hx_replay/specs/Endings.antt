@@ -3,8 +3,8 @@ use Rattle.std.specs.Prelude.{◌≡◌, ◌⊎◌, ℕ, ◌≤◌, true, List, 
 use Rattle.hx_base.specs.Counts.{Rose}
 use Rattle.hx_link.specs.Told.{SourceState, SinkState}
 use Rattle.hx_link.specs.Whole.{WritesAll, WritesPart}
-use Rattle.hx_replay_parts.specs.Replayable.{most_script, HasConfigFault, IsUnbuiltScript}
-use Rattle.hx_replay_parts.specs.Replays.{Replays}
+use Rattle.hx_form.specs.Forms.{HasConfigFault, IsUnbuiltScript}
+use Rattle.hx_replay_parts.specs.Replays.{most_script, Replays}
 use Rattle.hx_replay.specs.Commands.{Means, NoCommand}
 use Rattle.hx_replay.specs.declared.command.Command.TheVariants.{Replay, Check, Drill}
 use Rattle.hx_replay.specs.declared.ending.Ending.{Ending}

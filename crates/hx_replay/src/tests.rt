@@ -2,6 +2,7 @@
 ghost use Rattle.std.specs.Prelude.{◌≡◌, IfOk};
 
 mod configs;
+mod framings;
 mod modes;
 
 use crate::replay_main;
@@ -45,6 +46,9 @@ end
 
 const USAGE: &str = "usage: hx_replay replay | check | drill <start> <threads> <sessions>\n";
 
+/// The most bytes that the sink takes.
+const ROOM: usize = 2_000_000;
+
 /// The status of a run, and what the sink took.
 #[derive(Drop)]
 struct Outcome {
@@ -75,7 +79,7 @@ fn run(rt: &HostRuntime, words: &str, script: &str, fails: Fails) -> Result<Outc
         all.push(word.to_string(alloc)?)?;
     }
     let mut source = MemorySource::new(script.as_bytes().to_vec(alloc)?, one(alloc, fails.read)?);
-    let mut sink = MemorySink::new(alloc, 4096, one(alloc, fails.write)?)?;
+    let mut sink = MemorySink::new(alloc, ROOM, one(alloc, fails.write)?)?;
     let status = replay_main(rt, alloc, all.as_slice(), &mut source, &mut sink);
     Ok(Outcome {
         status,
@@ -178,98 +182,103 @@ const ASK: &str = "GET /a HTTP/1.1\\r\\nHost: h\\r\\n\\r\\n";
 
 const ANSWER: &str = "HTTP/1.1 200 OK\\r\\nContent-Length: 2\\r\\n\\r\\nhi";
 
+/// A request, the length of what is given for its answer, that of what is sent for it, the answer, and the status.
+type Messages = (&'static str, &'static str, &'static str, &'static str, u8);
+
+const MESSAGES: [Messages; 17] = [
+    (ASK, "40", "28", ANSWER, 0),
+    // Another host and another field.
+    (
+        "GET / HTTP/1.1\\r\\nHost: x.org\\r\\nA: b\\r\\n\\r\\n",
+        "40",
+        "37",
+        ANSWER,
+        0,
+    ),
+    // Lengths of no byte, of one, and of seven and eight digits.
+    (
+        ASK,
+        "38",
+        "28",
+        "HTTP/1.1 200 OK\\r\\nContent-Length: 0\\r\\n\\r\\n",
+        0,
+    ),
+    (
+        ASK,
+        "39",
+        "28",
+        "HTTP/1.1 200 OK\\r\\nContent-Length: 1\\r\\n\\r\\nh",
+        0,
+    ),
+    (
+        ASK,
+        "46",
+        "28",
+        "HTTP/1.1 200 OK\\r\\nContent-Length: 0000002\\r\\n\\r\\nhi",
+        0,
+    ),
+    (
+        ASK,
+        "47",
+        "28",
+        "HTTP/1.1 200 OK\\r\\nContent-Length: 00000002\\r\\n\\r\\nhi",
+        0,
+    ),
+    // Another method, no host, two hosts, a body, a field of one connection.
+    (
+        "PUT /a HTTP/1.1\\r\\nHost: h\\r\\n\\r\\n",
+        "40",
+        "28",
+        ANSWER,
+        0,
+    ),
+    ("GET /a HTTP/1.1\\r\\n\\r\\n", "40", "19", ANSWER, 8),
+    (
+        "GET /a HTTP/1.1\\r\\nHost: h\\r\\nHost: h\\r\\n\\r\\n",
+        "40",
+        "37",
+        ANSWER,
+        8,
+    ),
+    (
+        "GET /a HTTP/1.1\\r\\nHost: h\\r\\nContent-Length: 1\\r\\n\\r\\nx",
+        "40",
+        "48",
+        ANSWER,
+        0,
+    ),
+    (
+        "GET /a HTTP/1.1\\r\\nHost: h\\r\\nConnection: close\\r\\n\\r\\n",
+        "59",
+        "28",
+        ANSWER,
+        0,
+    ),
+    // Other numbers.
+    (ASK, "41", "28", ANSWER, 8),
+    (ASK, "40", "27", ANSWER, 8),
+    (ASK, "040", "28", ANSWER, 8),
+    // Another status, a longer body, no length.
+    (
+        ASK,
+        "47",
+        "28",
+        "HTTP/1.1 404 Not Found\\r\\nContent-Length: 2\\r\\n\\r\\nhi",
+        0,
+    ),
+    (
+        ASK,
+        "41",
+        "28",
+        "HTTP/1.1 200 OK\\r\\nContent-Length: 2\\r\\n\\r\\nhi!",
+        8,
+    ),
+    (ASK, "21", "28", "HTTP/1.1 200 OK\\r\\n\\r\\nhi", 8),
+];
+
 #[test]
 fn other_messages_of_the_form_pass_and_the_rest_is_not_built(rt: HostRuntime) -> Result<(), Fail> {
-    for (ask, gave, sent, answer, status) in [
-        (ASK, "40", "28", ANSWER, 0),
-        // Another host and another field.
-        (
-            "GET / HTTP/1.1\\r\\nHost: x.org\\r\\nA: b\\r\\n\\r\\n",
-            "40",
-            "37",
-            ANSWER,
-            0,
-        ),
-        // Lengths of no byte, of one, and of seven digits.
-        (
-            ASK,
-            "38",
-            "28",
-            "HTTP/1.1 200 OK\\r\\nContent-Length: 0\\r\\n\\r\\n",
-            0,
-        ),
-        (
-            ASK,
-            "39",
-            "28",
-            "HTTP/1.1 200 OK\\r\\nContent-Length: 1\\r\\n\\r\\nh",
-            0,
-        ),
-        (
-            ASK,
-            "46",
-            "28",
-            "HTTP/1.1 200 OK\\r\\nContent-Length: 0000002\\r\\n\\r\\nhi",
-            0,
-        ),
-        (
-            ASK,
-            "47",
-            "28",
-            "HTTP/1.1 200 OK\\r\\nContent-Length: 00000002\\r\\n\\r\\nhi",
-            8,
-        ),
-        // Another method, no host, two hosts, a body, a field of one connection.
-        (
-            "PUT /a HTTP/1.1\\r\\nHost: h\\r\\n\\r\\n",
-            "40",
-            "28",
-            ANSWER,
-            8,
-        ),
-        ("GET /a HTTP/1.1\\r\\n\\r\\n", "40", "19", ANSWER, 8),
-        (
-            "GET /a HTTP/1.1\\r\\nHost: h\\r\\nHost: h\\r\\n\\r\\n",
-            "40",
-            "37",
-            ANSWER,
-            8,
-        ),
-        (
-            "GET /a HTTP/1.1\\r\\nHost: h\\r\\nContent-Length: 1\\r\\n\\r\\nx",
-            "40",
-            "47",
-            ANSWER,
-            8,
-        ),
-        (
-            "GET /a HTTP/1.1\\r\\nHost: h\\r\\nConnection: close\\r\\n\\r\\n",
-            "40",
-            "28",
-            ANSWER,
-            8,
-        ),
-        // Other numbers.
-        (ASK, "41", "28", ANSWER, 8),
-        (ASK, "40", "27", ANSWER, 8),
-        (ASK, "040", "28", ANSWER, 8),
-        // Another status, a longer body, no length.
-        (
-            ASK,
-            "47",
-            "28",
-            "HTTP/1.1 404 Not Found\\r\\nContent-Length: 2\\r\\n\\r\\nhi",
-            8,
-        ),
-        (
-            ASK,
-            "41",
-            "28",
-            "HTTP/1.1 200 OK\\r\\nContent-Length: 2\\r\\n\\r\\nhi!",
-            8,
-        ),
-        (ASK, "21", "28", "HTTP/1.1 200 OK\\r\\n\\r\\nhi", 8),
-    ] {
+    for (ask, gave, sent, answer, status) in MESSAGES {
         let script = script_of(rt.alloc(), ask, gave, sent, answer)?;
         let ran = run(&rt, "replay", script.as_str(), NEVER)?;
         assert_eq!(rt; (answer, ran.status), (answer, status));

@@ -1,17 +1,1 @@
-pub mod Alone
-pub mod ConfigLemmas
-pub mod ConfigNames
-pub mod ConfigReading
-pub mod Draining
-pub mod ExchangeLemmas
-pub mod FormLemmas
-pub mod Forms
-pub mod HistoryTruth
-pub mod Lengths
-pub mod Marks
-pub mod MessageLemmas
-pub mod ToldServer
-pub mod TruthLemmas
-pub mod Parking
 pub mod ReplayLemmas
-pub mod RouteLemmas

@@ -1,31 +1,27 @@
 //! The replay of a script.
-ghost use Rattle.std.specs.Prelude.{◌≡◌, IfOk};
+ghost use Rattle.std.specs.Prelude.{◌≡◌, ℕ, List, IfOk, MatchOption};
 ghost use Rattle.hx_base.specs.declared.what.What.{What};
-ghost use Rattle.hx_replay_parts.specs.FirstReplay.{BeginsAlone, HasEnded, TellsRun, HasMessages, TellsScript};
-ghost use Rattle.hx_replay_parts.specs.Routes.{IsNamed};
+ghost use Rattle.hx_pool.specs.Journal.{journal_from};
+ghost use Rattle.hx_conn.specs.Conns.{RestedNow};
+ghost use Rattle.hx_link.specs.declared.plan.Plan.{Plan};
+ghost use Rattle.hx_form.specs.Forms.{IsOneExchange};
+ghost use Rattle.hx_form.specs.Routes.{IsNamed};
+ghost use Rattle.hx_form.specs.Shapes.{HasShape};
+ghost use Rattle.hx_exchange.specs.Exchanges.{CarryNone, IsExchanged};
+ghost use Rattle.hx_replay_parts.specs.ReplayParts.{IsFirst, IsOpened, TellsPlans};
 ghost use Rattle.hx_replay_parts.specs.Replays.{IsReplayOf, FaultsExclude};
 
-use crate::exchange::exchange;
-use crate::form::{Form, Script, read_form};
-use crate::plans::{plan_client, plan_server};
-use crate::route::Route;
-use crate::server_conn::ServerConn;
-use crate::settle::{open_first, settle};
-use crate::tell::{FirstRun, tell_first};
-use hx_base::{Items, Millis, NoMemory, PoolRules, ServerNo};
+use crate::connection::{FirstSeat, close, dial_first, link_of, net_of};
+use hx_base::NoMemory;
+use hx_exchange::{Exchanged, exchange};
+use hx_form::{Case, Form, Route, read_form};
 use hx_link::MemoryLink;
-use hx_plain::PlainSeat;
-use hx_pool::{JournalSeat, Seat};
 use hx_script::{Transcript, print_transcript};
+use hx_telling::{Run, all_marks, all_totals, exchange_is_true, first_seat, open_first, tell};
 use std::alloc::Global;
 
-/// The seat of the one worker, and its marks.
-type FirstSeat = JournalSeat<PlainSeat<ServerConn>>;
-
-const SERVER: ServerNo = ServerNo(0);
-
-/// How many marks the run makes at most.
-const MARKS: usize = 5;
+/// The most bytes of a script.
+pub const MOST_SCRIPT: usize = 1_048_576;
 
 /// What a text is replayed to.
 #[derive(Drop)]
@@ -38,64 +34,52 @@ pub enum Replay {
     Unbuilt,
 }
 
-/// A seat under the rules, with room for the marks of the run.
-fn first_seat(alloc: Global, rules: PoolRules) -> Result<FirstSeat, NoMemory>
-    ensures { IfOk result (BeginsAlone rules) }
-{
-    let seat = PlainSeat::new(alloc, SERVER, rules, Millis(0))?;
-    let mut journal = JournalSeat::new(alloc, seat);
-    journal.reserve(MARKS)?;
-    Ok(journal)
-}
-
-/// What is told of a run whose connection is closed.
-fn tell(
+/// What is told of an exchange that passed on the first connection.
+fn tell_exchange(
     alloc: Global,
     route: Route,
-    client: MemoryLink,
-    conn: ServerConn,
-    seat: &FirstSeat,
+    exchanged: Exchanged,
+    seat: FirstSeat,
 ) -> Result<Transcript, NoMemory>
     requires named { IsNamed route }
-    requires ended { (what : What) × HasEnded route.rules seat.now what }
-    ensures { IfOk result (TellsRun route client.state conn.link.state) }
+    requires opened { IsOpened route.rules seat }
+    requires passed { (c : Plan) × (s : Plan) × (first : RestedNow) × IsFirst s first × IsExchanged c s first exchanged }
+    ensures { (c s : Plan) (first : RestedNow) → IsFirst s first → IsExchanged c s first exchanged
+        → IfOk result (TellsPlans c s route) }
 {
-    if !seat.is_whole() {
+    exchange_is_true();
+    let mut seat = seat;
+    if link_of(&exchanged.server).starved() {
         return Err(NoMemory);
     }
-    let marks = Items::from_vec(Vec::from_slice(alloc, seat.marks())?);
-    let client = client.into_bytes()?;
-    let server = conn.link.into_bytes()?;
-    let run = FirstRun {
-        ask: client.taken,
+    let server = close(&mut seat, exchanged.server).into_bytes()?;
+    let run = Run {
+        ask: exchanged.client.taken,
         sent: server.sent,
         answer: server.taken,
-        gave: client.sent,
+        gave: exchanged.client.sent,
+        closing: exchanged.closing,
     };
-    tell_first(alloc, run, route, marks, seat.totals())
+    let marks = all_marks(alloc, &seat)?;
+    let totals = all_totals(&seat);
+    tell(alloc, run, route, marks, totals)
 }
 
-/// The transcript of a script of one exchange.
-fn replay_script(alloc: Global, route: Route, script: Script) -> Result<Transcript, NoMemory>
-    requires named { IsNamed route }
-    requires messages { HasMessages script }
-    ensures { IfOk result (TellsScript route script) }
+/// The transcript of a case; None: its plans carry no messages.
+fn replay_case(alloc: Global, case: Case) -> Result<Option<Transcript>, NoMemory>
+    requires { (text : List ℕ) × IsOneExchange text case }
+    ensures { IfOk result (λ o. MatchOption o (CarryNone case.client case.server)
+        (TellsPlans case.client case.server case.route)) }
 {
-    let plan = plan_client(alloc, script.client_line, script.ask, script.gave)?;
-    let mut client = MemoryLink::new(plan);
-    let plan = plan_server(alloc, script.server_line, script.answer, script.sent)?;
-    let mut server = MemoryLink::new(plan);
-    let mut seat = first_seat(alloc, route.rules)?;
-    let id = open_first::<ServerConn, FirstSeat>(&mut seat);
-    exchange(alloc, &mut client, &mut server)?;
-    let conn = ServerConn {
-        link: server,
-        id,
-        server: SERVER,
-        uses: 1,
-    };
-    let closed = settle(&mut seat, conn);
-    tell(alloc, route, client, closed, &seat)
+    let client = MemoryLink::new(case.client);
+    let mut net = net_of(alloc, case.server)?;
+    let mut seat: FirstSeat = first_seat(alloc, case.route.rules)?;
+    let id = open_first(&mut seat);
+    let rested = dial_first(&mut net, &case.route.address, id)?;
+    match exchange(alloc, client, rested, &mut net, &case.shape)? {
+        None => Ok(None),
+        Some(exchanged) => Ok(Some(tell_exchange(alloc, case.route, exchanged, seat)?)),
+    }
 }
 
 /// What the bytes are replayed to: the transcript of a script of one exchange, the first fault of a script's
@@ -109,10 +93,10 @@ pub fn replay_text(alloc: Global, bytes: &[u8]) -> Result<Replay, NoMemory>
     match read_form(alloc, bytes)? {
         Form::Unbuilt => Ok(Replay::Unbuilt),
         Form::ConfigFault { line, rule } => Ok(Replay::ConfigFault { line, rule }),
-        Form::OneExchange(route, script) => {
-            let told = replay_script(alloc, route, script)?;
-            Ok(Replay::Text(print_transcript(alloc, &told)?))
-        }
+        Form::OneExchange(case) => match replay_case(alloc, case)? {
+            Some(told) => Ok(Replay::Text(print_transcript(alloc, &told)?)),
+            None => Ok(Replay::Unbuilt),
+        },
     }
 }
 

@@ -1,7 +1,11 @@
 use Rattle.std.proofs.Common.{arith, ℕ, List, subst}
 use Rattle.hx_replay.specs.Endings.{IsEndingOf}
-use Rattle.hx_replay.proofs.RunLemmas.{replay_has_cause}
+use Rattle.hx_replay.proofs.RunLemmas.{long_has_cause, replay_has_cause}
 use Rattle.hx_replay.proofs.run.replay_source.Goals as goal
+
+pub returns-then-len-gt-MOST_SCRIPT : goal.returns-then-len-gt-MOST_SCRIPT
+returns-then-len-gt-MOST_SCRIPT g c =
+    long_has_cause _ _ c.in-Ok.bytes.items c.in-Ok.ensures.reads (omega (arith, c.if-len-gt-MOST_SCRIPT.true, c.len.ensures))
 
 pub returns-in-Ok : goal.returns-in-Ok
 returns-in-Ok g c =
