@@ -217,10 +217,11 @@ const ASKS: [&str; 4] = [
 ];
 
 /// Answers to GET that go out as they came.
-const ANSWERS: [&str; 7] = [
+const ANSWERS: [&str; 8] = [
     OK,
     "HTTP/1.1 200 OK\r\nContent-Length: 0\r\n\r\n",
     "HTTP/1.1 200 OK\r\nTransfer-Encoding: chunked\r\n\r\n3\r\nabc\r\n0\r\nX: y\r\n\r\n",
+    "HTTP/1.1 200 OK\r\nTransfer-Encoding: chunked\r\n\r\n4;n=1\r\nwiki\r\n0;last\r\nSum: 7\r\nEnd: 8\r\n\r\n",
     "HTTP/1.1 204 No Content\r\nContent-Length: 3\r\n\r\n",
     "HTTP/1.1 304 Not Modified\r\nContent-Length: 10\r\nETag: \"e\\f\"\r\n\r\n",
     "HTTP/1.1 404 Not Found\r\nX-Long: a b c\r\nContent-Length: 1\r\n\r\n.",
