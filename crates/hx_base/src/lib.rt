@@ -6,6 +6,7 @@ mod faced;
 mod items;
 mod numbers;
 mod order;
+mod plan;
 mod rules;
 mod totals;
 mod what;
@@ -17,6 +18,7 @@ pub use numbers::{
     ConnId, Face, Millis, NoMemory, OutOfIds, PlaceNo, ServerNo, SessionNo, Span, ThreadNo,
 };
 pub use order::Order;
+pub use plan::{Piece, Plan};
 pub use rules::{Mode, PoolRules};
 pub use totals::Totals;
 pub use what::{LinkTold, What};

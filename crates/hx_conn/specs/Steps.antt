@@ -10,7 +10,8 @@ use Rattle.hx_link.specs.declared.answers.Put.TheVariants as put
 use Rattle.hx_link.specs.Told.{LinkState, CountsOne}
 use Rattle.hx_link.specs.Sources.{GotFits}
 use Rattle.hx_link.specs.Links.{LinkReads, LinkWrites}
-use Rattle.hx_link.specs.Nets.{NetState, OnlyFaults}
+use Rattle.hx_link.specs.Courses.{attach_fails}
+use Rattle.hx_link.specs.Nets.{NetState, OnlyFaults, AttachCounted}
 use Rattle.hx_link.specs.Pipes.{PipeNow}
 use Rattle.hx_link.specs.Moves.{ReadsInto}
 use Rattle.hx_conn.specs.declared.causes.Death.{Death}
@@ -59,13 +60,15 @@ begun r method loop_no = record {
 }
 
 abbrev pub BeginsOk : RestedNow → MethodKind → NetState → NetState → BusyNow → Type 0
-BeginsOk r method net_old net_new b = OnlyFaults net_old net_new × (b ≡ begun r method net_old.loop_no)
+BeginsOk r method net_old net_new b =
+    (AttachCounted net_old net_new × IfSome net_old.course (λ c. attach_fails c.failing ≡ false))
+    × (b ≡ begun r method net_old.loop_no)
 
 -- the net failed, and the link is as it was
 abbrev pub BeginsDead : RestedNow → NetState → NetState → LinkState → ConnId → ℕ → Type 0
 BeginsDead r net_old net_new link id why =
-    (net_new ≡ record net_old { faults = net_new.faults }) × CountsOne net_old.faults net_new.faults
-    × (link ≡ r.link) × (id ≡ r.id) × (why ≡ death_code AttachFault)
+    AttachCounted net_old net_new × IfSome net_old.course (λ c. attach_fails c.failing ≡ true)
+    × CountsOne net_old.faults net_new.faults × (link ≡ r.link) × (id ≡ r.id) × (why ≡ death_code AttachFault)
 
 -- a write or a read failed
 abbrev pub is_failed_put : Put → Bool

@@ -13,7 +13,7 @@ told_of (Some sent) None ended = None
 told_of None taken ended = None
 
 abbrev pub what_of_link : LinkState → What
-what_of_link l = record { faults = l.faults; tag = l.tag; told = told_of l.sent l.taken l.told_end }
+what_of_link l = record { faults = l.faults; tag = l.tag; told = told_of l.sent l.taken l.told_end; plan = l.plan }
 
 -- its number and its uses, the server of its dial, and what its link tells
 abbrev pub shown : RestedNow → Shown

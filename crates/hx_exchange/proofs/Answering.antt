@@ -12,7 +12,7 @@ use Rattle.hx_frame.specs.declared.progress.MeterState.{MeterState}
 use Rattle.hx_frame.specs.declared.progress.MeterState.TheVariants.{Going}
 use Rattle.hx_frame.specs.Meters.{MeterFits, IsProperPart, state_of}
 use Rattle.hx_link.specs.Told.{LinkState}
-use Rattle.hx_link.specs.declared.plan.Plan.{Plan}
+use Rattle.hx_base.specs.declared.plan.Plan.{Plan}
 use Rattle.hx_link.specs.MemoryLinks.{MemoryLinkNow, KeepsPlan}
 use Rattle.hx_link.specs.Planned.{end_has_come}
 use Rattle.hx_passage.specs.declared.halt.Halt.{Halt}

@@ -11,7 +11,7 @@ use Rattle.hx_message.proofs.Unique.{one_request}
 use Rattle.hx_frame.specs.declared.progress.MeterState.{MeterState}
 use Rattle.hx_frame.specs.Meters.{MeterFits, IsProperPart}
 use Rattle.hx_link.specs.Told.{LinkState}
-use Rattle.hx_link.specs.declared.plan.Plan.{Plan}
+use Rattle.hx_base.specs.declared.plan.Plan.{Plan}
 use Rattle.hx_link.specs.MemoryLinks.{MemoryLinkNow, KeepsPlan, new_state}
 use Rattle.hx_conn.specs.Conns.{BusyNow}
 use Rattle.hx_passage.specs.declared.halt.Stop.{Stop}

@@ -1,7 +1,7 @@
 -- A session whose client was read.
 use Rattle.std.proofs.Common.{◌≡◌, ℕ, List, [], ◌++◌, sym, ap, subst, ◌∙◌, arith}
 use Rattle.hx_link.specs.Told.{LinkState}
-use Rattle.hx_link.specs.declared.plan.Plan.{Plan}
+use Rattle.hx_base.specs.declared.plan.Plan.{Plan}
 use Rattle.hx_link.specs.MemoryLinks.{MemoryLinkNow, new_link, new_state}
 use Rattle.hx_link.specs.Pipes.{PipeNow, pipe}
 use Rattle.hx_passage.specs.Moves.{Takes, TakesInto}

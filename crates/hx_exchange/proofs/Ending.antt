@@ -8,7 +8,7 @@ use Rattle.hx_base.specs.declared.numbers.ServerNo.{ServerNo}
 use Rattle.hx_message.specs.declared.MethodKind.{MethodKind}
 use Rattle.hx_message.specs.Message.{IsRequest, IsAnswer}
 use Rattle.hx_link.specs.Told.{LinkState}
-use Rattle.hx_link.specs.declared.plan.Plan.{Plan}
+use Rattle.hx_base.specs.declared.plan.Plan.{Plan}
 use Rattle.hx_link.specs.declared.link_bytes.LinkBytes.{LinkBytes}
 use Rattle.hx_link.specs.MemoryLinks.{MemoryLinkNow, KeepsPlan}
 use Rattle.hx_link.specs.MemoryCauses.{is_due, is_spent}

@@ -1,6 +1,6 @@
 -- The head of a whole request is found.
 use Rattle.std.proofs.Common.{◌≡◌, ℕ, false, List, ◌++◌, sym, subst, ◌∙◌, arith}
-use Rattle.hx_link.specs.declared.plan.Plan.{Plan}
+use Rattle.hx_base.specs.declared.plan.Plan.{Plan}
 use Rattle.hx_link.specs.MemoryLinks.{MemoryLinkNow}
 use Rattle.hx_message.specs.Message.{IsRequest}
 use Rattle.hx_head.specs.Limits.{IsShortRequest}

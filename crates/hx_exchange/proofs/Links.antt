@@ -2,7 +2,7 @@
 use Rattle.std.proofs.Common.{◌≡◌, ℕ, ◌≤◌, true, false, List, [], ◌++◌, length, take, drop, Option, Some, None, sym, ap, subst, ◌∙◌, arith}
 use Rattle.std.specs.Prelude.{All, option_map, IsSome}
 use Rattle.std.proofs.lemmas.List.{take_all, take-append-drop}
-use Rattle.hx_link.specs.declared.plan.Plan.{Plan}
+use Rattle.hx_base.specs.declared.plan.Plan.{Plan}
 use Rattle.hx_link.specs.Told.{LinkState}
 use Rattle.hx_link.specs.MemoryLinks.{MemoryLinkNow, KeepsPlan}
 use Rattle.hx_link.specs.Planned.{planned, end_has_come, is_ready}

@@ -7,7 +7,7 @@ use Rattle.hx_message.specs.declared.MethodKind.{MethodKind}
 use Rattle.hx_message.specs.Body.{kind_of_method, wants_close}
 use Rattle.hx_message.specs.Message.{IsRequest, WantsClose}
 use Rattle.hx_link.specs.Told.{LinkState}
-use Rattle.hx_link.specs.declared.plan.Plan.{Plan}
+use Rattle.hx_base.specs.declared.plan.Plan.{Plan}
 use Rattle.hx_link.specs.MemoryLinks.{new_state}
 use Rattle.hx_conn.specs.Conns.{RestedNow, BusyNow}
 use Rattle.hx_conn.specs.Steps.{begun}

@@ -3,7 +3,7 @@ use Rattle.std.proofs.Common.{◌≡◌, ℕ, suc, ◌+◌, ◌-◌, ◌<◌, �
 use Rattle.std.specs.Prelude.{◌&&◌, nat_le, All}
 use Rattle.std.proofs.lemmas.Bool.{cases_lt}
 use Rattle.hx_base.specs.declared.numbers.Millis.{Millis}
-use Rattle.hx_link.specs.declared.plan.Piece.{Piece}
+use Rattle.hx_base.specs.declared.plan.Piece.{Piece}
 use Rattle.hx_link.specs.Planned.{planned, next_piece, left_of_piece, is_ready_with, end_has_come, has_come}
 use Rattle.hx_form.specs.Shapes.{IsThereAfter, end_after}
 

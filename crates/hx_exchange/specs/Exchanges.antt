@@ -3,7 +3,7 @@ use Rattle.std.specs.Prelude.{◌≡◌, ◌+◌, true, false, Some}
 use Rattle.hx_link.specs.Told.{LinkState}
 use Rattle.hx_link.specs.MemoryLinks.{begun_link}
 use Rattle.hx_link.specs.Planned.{planned}
-use Rattle.hx_link.specs.declared.plan.Plan.{Plan}
+use Rattle.hx_base.specs.declared.plan.Plan.{Plan}
 use Rattle.hx_conn.specs.Conns.{RestedNow}
 use Rattle.hx_form.specs.Messages.{Messages, AreMessages}
 use Rattle.hx_form.specs.Shapes.{HasShape, shape_of, CarryMessages}

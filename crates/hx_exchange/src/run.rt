@@ -1,7 +1,7 @@
 //! One exchange over links in memory.
 ghost use Rattle.std.specs.Prelude.{◌≡◌, IfOk, MatchOption};
 ghost use Rattle.hx_conn.specs.Conns.{RestedNow};
-ghost use Rattle.hx_link.specs.declared.plan.Plan.{Plan};
+ghost use Rattle.hx_base.specs.declared.plan.Plan.{Plan};
 ghost use Rattle.hx_link.specs.MemoryLinks.{new_link};
 ghost use Rattle.hx_session_parts.specs.Asks.{IsAsked};
 ghost use Rattle.hx_form.specs.Shapes.{HasShape};

@@ -9,8 +9,8 @@ use Rattle.hx_base.specs.declared.numbers.Millis.{Millis}
 use Rattle.hx_config.specs.Keywords.{found}
 use Rattle.hx_config.specs.Meaning as config
 use Rattle.hx_link.specs.Planned.{planned}
-use Rattle.hx_link.specs.declared.plan.Piece.{Piece}
-use Rattle.hx_link.specs.declared.plan.Plan.{Plan}
+use Rattle.hx_base.specs.declared.plan.Piece.{Piece}
+use Rattle.hx_base.specs.declared.plan.Plan.{Plan}
 use Rattle.hx_script_parts.specs.Faults.{◌>>=◌, unless, located}
 use Rattle.hx_script_parts.specs.Keywords.{first_words}
 use Rattle.hx_script_parts.specs.Lexical.{Rest, on_first, lines_of, is_kept, is_inside, first_line, past_line, behind, in_front, behind_word, word_at, behind_text, read_text, text_at, at_end}

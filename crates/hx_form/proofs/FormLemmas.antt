@@ -11,7 +11,7 @@ use Rattle.hx_config.specs.Meaning as config
 use Rattle.hx_config.specs.declared.parts.Back.{Back}
 use Rattle.hx_config.specs.declared.parts.Server.{Server}
 use Rattle.hx_link.specs.MemoryNets.{IsPlan}
-use Rattle.hx_link.specs.declared.plan.Plan.{Plan}
+use Rattle.hx_base.specs.declared.plan.Plan.{Plan}
 use Rattle.hx_script_parts.specs.Lexical.{lines_of}
 use Rattle.hx_script_parts.specs.Limits.{is_positive, has_limits, is_client_of, dials, is_plan_of}
 use Rattle.hx_script_parts.specs.Meaning.{Meaning, meaning_of}

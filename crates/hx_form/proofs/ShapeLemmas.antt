@@ -2,8 +2,8 @@
 use Rattle.std.proofs.Common.{◌≡◌, ℕ, Bool, true, false, cond, List, [], ◌∷◌, All, None, refl, sym, ap, ◌∙◌}
 use Rattle.std.proofs.lemmas.List.Elements.{All-head}
 use Rattle.hx_base.specs.declared.numbers.Millis.{Millis}
-use Rattle.hx_link.specs.declared.plan.Piece.{Piece}
-use Rattle.hx_link.specs.declared.plan.Plan.{Plan}
+use Rattle.hx_base.specs.declared.plan.Piece.{Piece}
+use Rattle.hx_base.specs.declared.plan.Plan.{Plan}
 use Rattle.hx_form.specs.declared.shape.Shape.{Shape}
 use Rattle.hx_form.specs.Shapes.{IsThereAfter, end_after, HasShape}
 

@@ -1,6 +1,6 @@
 -- Private: the parts of a script of one exchange.
 use Rattle.std.specs.Prelude.{◌≡◌, ◌<◌, List, [], ◌∷◌}
-use Rattle.hx_link.specs.declared.plan.Plan.{Plan}
+use Rattle.hx_base.specs.declared.plan.Plan.{Plan}
 use Rattle.hx_script_parts.specs.declared.script.ClientLine.{ClientLine}
 
 -- there is one client, from the beginning

@@ -1,7 +1,7 @@
 -- Scripts of one exchange, and scripts whose configuration has a fault.
 use Rattle.std.specs.Prelude.{◌≡◌, ℕ, ◌<◌, List, [], ◌∷◌, ◌++◌, All, codes, Some, Ok, Err}
 use Rattle.hx_link.specs.MemoryNets.{IsPlan}
-use Rattle.hx_link.specs.declared.plan.Plan.{Plan}
+use Rattle.hx_base.specs.declared.plan.Plan.{Plan}
 use Rattle.hx_script_parts.specs.Lexical.{lines_of}
 use Rattle.hx_script_parts.specs.Meaning.{Meaning, meaning_of}
 use Rattle.hx_script_parts.specs.declared.fault.Flaw.TheVariants as flaw

@@ -1,8 +1,8 @@
 -- Private: what the lines of one link say by their numbers.
 use Rattle.std.specs.Prelude.{◌≡◌, ℕ, ◌^◌, ◌<◌, Bool, false, List, [], length, Option, None, All, if◌then◌else◌}
 use Rattle.hx_base.specs.declared.numbers.Millis.{Millis}
-use Rattle.hx_link.specs.declared.plan.Piece.{Piece}
-use Rattle.hx_link.specs.declared.plan.Plan.{Plan}
+use Rattle.hx_base.specs.declared.plan.Piece.{Piece}
+use Rattle.hx_base.specs.declared.plan.Plan.{Plan}
 use Rattle.hx_link.specs.Planned.{planned}
 use Rattle.hx_form.specs.Shapes.{IsThereAfter, end_after}
 

@@ -1,8 +1,8 @@
 -- What the lines of a client and of a server say of one exchange, by their numbers alone.
 use Rattle.std.specs.Prelude.{◌≡◌, ℕ, ◌^◌, ◌<◌, false, [], length, Option, Some, None, All, if◌then◌else◌}
 use Rattle.hx_base.specs.declared.numbers.Millis.{Millis}
-use Rattle.hx_link.specs.declared.plan.Piece.{Piece}
-use Rattle.hx_link.specs.declared.plan.Plan.{Plan}
+use Rattle.hx_base.specs.declared.plan.Piece.{Piece}
+use Rattle.hx_base.specs.declared.plan.Plan.{Plan}
 use Rattle.hx_link.specs.Planned.{planned}
 use Rattle.hx_form.specs.declared.shape.Shape.{Shape}
 use Rattle.hx_form.specs.Messages.{Messages, AreMessages}

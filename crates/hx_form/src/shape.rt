@@ -4,7 +4,7 @@ ghost use Rattle.hx_form.specs.Shapes.{IsThereAfter, end_after, HasShape, NoShap
 ghost use Rattle.hx_form.specs.ShapeParts.{ArePieces, NoPieces, IsEndAfter, IsClientPart, NoClientPart, IsServerPart, NoServerPart};
 ghost use Rattle.hx_form.specs.declared.shape.Shape as shape;
 ghost use Rattle.hx_link.specs.Planned.{planned};
-ghost use Rattle.hx_link.specs.declared.plan.Plan as plan;
+ghost use Rattle.hx_base.specs.declared.plan.Plan as plan;
 
 use hx_base::Millis;
 use hx_link::{Piece, Plan};

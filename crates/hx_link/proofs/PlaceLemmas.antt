@@ -5,8 +5,8 @@ use Rattle.std.proofs.lemmas.Bool.{le-ltb, lt-ltb}
 use Rattle.std.proofs.lemmas.Grind.{flat_map-append}
 use Rattle.std.proofs.lemmas.List.{take_all, take_more, drop_more, drop_all, take-append-drop, take-append-le, drop_at, drop-drop, drop-append-le, append-nil, length-drop}
 use Rattle.hx_base.specs.declared.numbers.Millis.{Millis}
-use Rattle.hx_link.specs.declared.plan.Piece.{Piece}
-use Rattle.hx_link.specs.declared.plan.Plan.{Plan}
+use Rattle.hx_base.specs.declared.plan.Piece.{Piece}
+use Rattle.hx_base.specs.declared.plan.Plan.{Plan}
 use Rattle.hx_link.specs.declared.place.Place.{Place}
 use Rattle.hx_link.specs.Planned.{planned, next_piece, left_of_piece, is_ready, is_ready_with, end_has_come, has_come}
 use Rattle.hx_link.specs.Places.{first_bytes, IsPlace, IsNext}

@@ -3,7 +3,7 @@ use Rattle.std.proofs.Common.{◌≡◌, ℕ, ◌+◌, ◌<◌, List, [], ◌∷
 use Rattle.std.specs.Prelude.{true, false}
 use Rattle.std.proofs.lemmas.List.{take_more, drop_more}
 use Rattle.hx_base.specs.declared.numbers.ServerNo.{ServerNo}
-use Rattle.hx_link.specs.declared.plan.Plan.{Plan}
+use Rattle.hx_base.specs.declared.plan.Plan.{Plan}
 use Rattle.hx_link.specs.MemoryNets.{is_server, next_plan, without_next}
 
 -- a plan of another server is passed

@@ -14,5 +14,6 @@ pub mod PipeLends
 pub mod Moves
 pub mod Nets
 pub mod MemoryNets
+pub mod Courses
 pub mod DialNotes
 pub mod MemoryNetView

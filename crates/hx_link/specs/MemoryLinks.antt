@@ -2,7 +2,7 @@
 use Rattle.std.specs.Prelude.{◌≡◌, ◌⊎◌, ℕ, ◌<◌, ◌≤◌, Bool, true, false, [], length, take, Option, Some, None, IsSome}
 use Rattle.hx_link.specs.Told.{LinkState, most_bytes}
 use Rattle.hx_link.specs.Planned.{planned, is_ready, fails_at}
-use Rattle.hx_link.specs.declared.plan.Plan.{Plan}
+use Rattle.hx_base.specs.declared.plan.Plan.{Plan}
 
 pub record MemoryLinkNow : Type 0 where
   pub plan : Plan

@@ -1,5 +1,5 @@
 -- Private: how the fields of a net in memory stand for what it tells.
-use Rattle.std.specs.Prelude.{◌-◌, map, All, vec_capacity, vec_len}
+use Rattle.std.specs.Prelude.{◌≡◌, true, false, Some, ◌-◌, map, All, vec_capacity, vec_len}
 use Rattle.hx_link.specs.declared.memory_net.MemoryNet.TheInside.{Inside}
 use Rattle.hx_link.specs.MemoryLinks.{state_of}
 use Rattle.hx_link.specs.MemoryNets.{MemoryNetNow, IsPlan}
@@ -12,6 +12,7 @@ net_view m = record {
     loop_no = m.thread.0;
     dials = where_told m.telling (map note_told m.dials.items);
     buried = where_told m.telling (map state_of m.buried.items);
+    course = Some (record { plans = m.plans.items; failing = m.failing });
   };
   plans = m.plans.items;
   links = where_told m.telling m.buried.items;
@@ -20,5 +21,6 @@ net_view m = record {
   starved = m.starved;
 }
 
-abbrev pub HasPlans : Inside → Type 0
-HasPlans m = All IsPlan m.plans.items
+pub record IsNet (m : Inside) : Type 0 where
+  pub plans : All IsPlan m.plans.items
+  pub telling : m.starved ≡ false → m.telling ≡ true

@@ -2,9 +2,11 @@
 use Rattle.std.specs.Prelude.{◌≡◌, ◌⊎◌, ℕ, ◌-◌, ◌+◌, ◌≤◌, Bool, true, false, ◌||◌, List, [], ◌∷◌, Option, Some, None, IsSome, IfSome, option_map, map, Result, Ok, Err, if◌then◌else◌, ◌==◌}
 use Rattle.hx_base.specs.declared.numbers.ServerNo.{ServerNo}
 use Rattle.hx_base.specs.declared.numbers.ConnId.{ConnId}
-use Rattle.hx_link.specs.declared.plan.Plan.{Plan}
+use Rattle.hx_base.specs.declared.plan.Plan.{Plan}
 use Rattle.hx_link.specs.declared.net.NetFault.{NetFault}
 use Rattle.hx_link.specs.Nets.{NetState, DialTold, told_dial, with_more}
+pub use Rattle.hx_link.specs.Courses.{is_server, next_plan, without_next, refuses, attach_fails, after_attach}
+use Rattle.hx_link.specs.Courses.{after_dial, attached}
 use Rattle.hx_link.specs.MemoryLinks.{MemoryLinkNow, begun_link, state_of}
 
 pub record MemoryNetNow : Type 0 where
@@ -23,7 +25,7 @@ pub record MemoryNetNow : Type 0 where
 -- a net of these plans before its first call, with room for so many links
 abbrev pub new_net : List Plan → ℕ → MemoryNetNow
 new_net plans room = record {
-  state = record { faults = 0; loop_no = 0; dials = Some []; buried = Some [] };
+  state = record { faults = 0; loop_no = 0; dials = Some []; buried = Some []; course = Some (record { plans = plans; failing = None }) };
   plans = plans;
   links = Some [];
   room = room;
@@ -36,29 +38,9 @@ pub record IsPlan (p : Plan) : Type 0 where
   pub room : IfSome p.room (λ n. 1 ≤ n)
   pub fail : IfSome p.fail (λ n. 1 ≤ n)
 
--- the plan is one for that server
-abbrev pub is_server : ServerNo → Option ServerNo → Bool
-is_server server None = false
-is_server server (Some other) = other.0 == server.0
-
--- a server's next plan
-abbrev pub next_plan : ServerNo → List Plan → Option Plan
-next_plan server [] = None
-next_plan server (p ∷ plans) = if is_server server p.server then Some p else next_plan server plans
-
--- the plans without it
-abbrev pub without_next : ServerNo → List Plan → List Plan
-without_next server [] = []
-without_next server (p ∷ plans) = if is_server server p.server then plans else p ∷ without_next server plans
-
 -- a link of that plan, as its dial gives it
 abbrev pub dialled_link : ServerNo → ConnId → Plan → MemoryLinkNow
 dialled_link server id plan = begun_link plan (Some (server.0, id.0))
-
--- no plan is left, or the next one refuses
-abbrev pub refuses : Option Plan → Bool
-refuses None = true
-refuses (Some p) = p.refuse
 
 -- a link of that plan where there is one that doesn't refuse
 abbrev pub DialsPlan : ServerNo → ConnId → Option Plan → Option MemoryLinkNow → Type 0
@@ -74,7 +56,10 @@ told_result server id (Some link) = told_dial server id true link.state.tag
 -- a dial uses the next plan, and is noted where dials are told
 abbrev pub dialled : MemoryNetNow → ServerNo → ConnId → Bool → Option ℕ → MemoryNetNow
 dialled old server id answered tag = record old {
-  state = record old.state { dials = with_more (told_dial server id answered tag) old.state.dials };
+  state = record old.state {
+    dials = with_more (told_dial server id answered tag) old.state.dials;
+    course = option_map (after_dial server) old.state.course;
+  };
   plans = without_next server old.plans;
 }
 
@@ -100,22 +85,17 @@ MemoryDials old new server id (Err fault) =
     ((refuses (next_plan server old.plans) ≡ true) × (new ≡ counting new.state.faults (dialled old server id false None)))
     ⊎ (IsSome old.state.dials × (new ≡ counting new.state.faults (unnoted (dialled old server id false None))))
 
--- the next attach is the one that fails
-abbrev pub attach_fails : Option ℕ → Bool
-attach_fails None = false
-attach_fails (Some k) = k == 1
-
--- one attach was made
-abbrev pub after_attach : Option ℕ → Option ℕ
-after_attach None = None
-after_attach (Some k) = if k == 1 then None else Some (k - 1)
+-- one attach was counted
+abbrev pub counted_attach : MemoryNetNow → MemoryNetNow
+counted_attach old =
+    record old { state = record old.state { course = option_map attached old.state.course }; failing = after_attach old.failing }
 
 -- an attach fails exactly where it is the one that was named
 abbrev pub MemoryAttaches : {D : Type 0} → MemoryNetNow → MemoryNetNow → Result D NetFault → Type 0
 MemoryAttaches old new (Ok done) =
-    (attach_fails old.failing ≡ false) × (new ≡ record old { failing = after_attach old.failing })
+    (attach_fails old.failing ≡ false) × (new ≡ counted_attach old)
 MemoryAttaches old new (Err fault) =
-    (attach_fails old.failing ≡ true) × (new ≡ counting new.state.faults (record old { failing = after_attach old.failing }))
+    (attach_fails old.failing ≡ true) × (new ≡ counting new.state.faults (counted_attach old))
 
 -- a buried link is kept, or dropped where there was no room and no memory was found
 abbrev pub KeepsLink : MemoryNetNow → MemoryNetNow → MemoryLinkNow → Type 0
@@ -131,6 +111,12 @@ abbrev pub MemoryBuries : MemoryNetNow → MemoryNetNow → MemoryLinkNow → Ty
 MemoryBuries old new link =
     (KeepsLink old new link × (old.room ≤ new.room + 1))
     ⊎ ((old.room ≡ 0) × (new ≡ record (unnoted old) { room = new.room }))
+
+-- what is to come is always told; where dials or burials aren't told any more, the net is starved
+pub record TellsCourse (m : MemoryNetNow) : Type 0 where
+  pub course : m.state.course ≡ Some (record { plans = m.plans; failing = m.failing })
+  pub dials : m.starved ≡ false → IsSome m.state.dials
+  pub buried : m.starved ≡ false → IsSome m.state.buried
 
 -- the links that are kept are those that the state tells
 abbrev pub TellsLinks : MemoryNetNow → Type 0

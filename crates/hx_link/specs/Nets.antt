@@ -2,6 +2,8 @@
 use Rattle.std.specs.Prelude.{◌≡◌, ◌⊎◌, ℕ, ◌≤◌, Bool, true, false, List, [], ◌∷◌, ◌++◌, Option, Some, None, IsSome, OnSome, IfSome, option_map, Result, Ok, Err}
 use Rattle.hx_base.specs.declared.numbers.ServerNo.{ServerNo}
 use Rattle.hx_base.specs.declared.numbers.ConnId.{ConnId}
+use Rattle.hx_base.specs.declared.plan.Plan.{Plan}
+use Rattle.hx_link.specs.Courses.{Course, next_plan, refuses, after_dial, attach_fails, attached}
 use Rattle.hx_link.specs.Told.{LinkState, CountsOne}
 use Rattle.hx_link.specs.declared.net.NetFault.{NetFault}
 
@@ -19,6 +21,8 @@ pub record NetState : Type 0 where
   pub dials : Option (List DialTold)
   -- all links that were buried, as they stood then, where it tells them
   pub buried : Option (List LinkState)
+  -- what is to come of its dials and attaches, where it tells it
+  pub course : Option Course
 
 -- a list is as it was, or isn't told any more
 abbrev pub StaysTold : {A : Type 0} → Option (List A) → Option (List A) → Type 0
@@ -56,14 +60,27 @@ pub record IsDialled (server : ServerNo) (id : ConnId) (l : LinkState) : Type 0 
 abbrev pub told_dial : ServerNo → ConnId → Bool → Option ℕ → DialTold
 told_dial server id answered tag = record { server = server; id = id; answered = answered; tag = tag }
 
+-- where the net tells what is to come, a link that is dialled follows the server's next plan, which doesn't refuse
+abbrev pub FollowsNext : ServerNo → Option Course → LinkState → Type 0
+FollowsNext server course l =
+    IfSome course (λ c. (p : Plan) × (next_plan server c.plans ≡ Some p) × (p.refuse ≡ false) × (l.plan ≡ Some p))
+
+-- and a dial that fails had no such plan, or dials aren't told any more
+abbrev pub HasNoNext : ServerNo → Option Course → NetState → Type 0
+HasNoNext server course new = IfSome course (λ c. (refuses (next_plan server c.plans) ≡ true) ⊎ (new.dials ≡ None))
+
 -- a dial is noted where dials are told; one that fails counts a fault, and one that answers Ok none
 abbrev pub NetDials : {L : Type 0} → (L → LinkState) → NetState → NetState → ServerNo → ConnId → Result L NetFault → Type 0
 NetDials state old new server id (Ok link) =
-    (new ≡ record old { dials = new.dials; buried = new.buried })
+    (new ≡ record old { dials = new.dials; buried = new.buried; course = option_map (after_dial server) old.course })
+    × FollowsNext server old.course (state link)
     × GainsTold (told_dial server id true (state link).tag) old.dials new.dials
     × StaysTold old.buried new.buried × IsDialled server id (state link)
 NetDials state old new server id (Err fault) =
-    (new ≡ record old { faults = new.faults; dials = new.dials; buried = new.buried })
+    (new ≡ record old {
+      faults = new.faults; dials = new.dials; buried = new.buried; course = option_map (after_dial server) old.course;
+    })
+    × HasNoNext server old.course new
     × GainsTold (told_dial server id false None) old.dials new.dials
     × StaysTold old.buried new.buried × CountsOne old.faults new.faults
 
@@ -71,12 +88,19 @@ NetDials state old new server id (Err fault) =
 abbrev pub OnlyFaults : NetState → NetState → Type 0
 OnlyFaults old new = (new ≡ record old { faults = new.faults }) × (old.faults ≤ new.faults)
 
+-- nothing but the count of faults, which doesn't fall, and the count of attaches
+abbrev pub AttachCounted : NetState → NetState → Type 0
+AttachCounted old new =
+    (new ≡ record old { faults = new.faults; course = option_map attached old.course }) × (old.faults ≤ new.faults)
+
 -- an attached link has the net's loop, and one that isn't is as it was, and a fault was counted
 abbrev pub NetAttaches : {D : Type 0} → NetState → NetState → LinkState → LinkState → Result D NetFault → Type 0
 NetAttaches old new link_old link_new (Ok done) =
-    OnlyFaults old new × (link_new ≡ record link_old { on_loop = Some old.loop_no })
+    AttachCounted old new × IfSome old.course (λ c. attach_fails c.failing ≡ false)
+    × (link_new ≡ record link_old { on_loop = Some old.loop_no })
 NetAttaches old new link_old link_new (Err fault) =
-    (new ≡ record old { faults = new.faults }) × CountsOne old.faults new.faults × (link_new ≡ link_old)
+    AttachCounted old new × IfSome old.course (λ c. attach_fails c.failing ≡ true)
+    × CountsOne old.faults new.faults × (link_new ≡ link_old)
 
 -- the link has no loop, and is else as it was
 abbrev pub NetDetaches : NetState → NetState → LinkState → LinkState → Type 0

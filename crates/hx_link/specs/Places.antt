@@ -1,7 +1,7 @@
 -- Private: how far the reads of a link in memory have come in its pieces, and what a read finds there.
 use Rattle.std.specs.Prelude.{◌≡◌, ℕ, ◌+◌, ◌<◌, ◌≤◌, true, false, List, [], ◌∷◌, length, take, drop, IsSome}
-use Rattle.hx_link.specs.declared.plan.Piece.{Piece}
-use Rattle.hx_link.specs.declared.plan.Plan.{Plan}
+use Rattle.hx_base.specs.declared.plan.Piece.{Piece}
+use Rattle.hx_base.specs.declared.plan.Plan.{Plan}
 use Rattle.hx_link.specs.declared.place.Place.{Place}
 use Rattle.hx_link.specs.declared.place.Due.{Due}
 use Rattle.hx_link.specs.declared.place.Due.TheVariants as due

@@ -2,8 +2,8 @@
 use Rattle.std.specs.Prelude.{ℕ, ◌-◌, Bool, false, ◌&&◌, List, [], ◌∷◌, length, Option, Some, None, nat_le, nat_lt, if◌then◌else◌, min}
 use Rattle.std.specs.List.{flat_map}
 use Rattle.hx_base.specs.declared.numbers.Millis.{Millis}
-use Rattle.hx_link.specs.declared.plan.Piece.{Piece}
-use Rattle.hx_link.specs.declared.plan.Plan.{Plan}
+use Rattle.hx_base.specs.declared.plan.Piece.{Piece}
+use Rattle.hx_base.specs.declared.plan.Plan.{Plan}
 
 -- all the bytes of the pieces, in order
 abbrev pub planned : List Piece → List ℕ

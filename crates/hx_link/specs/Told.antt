@@ -2,7 +2,7 @@
 -- Counts of faults and of waits are kept in a u64 and stand still at its end.
 use Rattle.std.specs.Prelude.{◌≡◌, ℕ, ◌-◌, ◌^◌, ◌≤◌, Bool, false, List, length, Option, None, IfSome}
 use Rattle.hx_base.specs.Counts.{Rose}
-use Rattle.hx_link.specs.declared.plan.Plan.{Plan}
+use Rattle.hx_base.specs.declared.plan.Plan.{Plan}
 
 pub record SourceState : Type 0 where
   -- how often it failed

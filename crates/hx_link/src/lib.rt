@@ -15,7 +15,6 @@ mod net;
 mod next_plan;
 mod pipe;
 mod place;
-mod plan;
 mod source;
 #[cfg(test)]
 mod tests;
@@ -33,6 +32,6 @@ pub use memory_source::MemorySource;
 pub use moves::{read_into, write_from};
 pub use net::{Net, NetFault};
 pub use pipe::Pipe;
-pub use plan::{Piece, Plan};
 pub use source::{Sink, Source};
+pub use hx_base::{Piece, Plan};
 pub use whole::{ReadFault, WriteFault, read_all, write_all};

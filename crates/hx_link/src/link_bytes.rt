@@ -2,7 +2,7 @@
 ghost use Rattle.std.specs.Prelude.{◌≡◌, ◌≤◌, ◌++◌, length, take, IfOk};
 ghost use Rattle.hx_link.specs.Planned.{planned};
 
-use crate::plan::Piece;
+use hx_base::Piece;
 use hx_base::{Bytes, Items, NoMemory};
 
 /// All bytes that were sent on a link, and all that were taken of it.

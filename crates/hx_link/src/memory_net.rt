@@ -4,14 +4,14 @@ ghost use Rattle.std.specs.Prelude.{IfOk, OnOk, OnErr, IfSome, MatchResult};
 ghost use Rattle.hx_link.specs.Nets.{with_more};
 ghost use Rattle.hx_link.specs.MemoryLinks.{state_of, with_loop};
 ghost use Rattle.hx_link.specs.MemoryNets.{new_net, IsPlan, next_plan, without_next, DialsPlan, told_result};
-ghost use Rattle.hx_link.specs.MemoryNets.{MemoryDials, MemoryAttaches, MemoryBuries, TellsLinks};
+ghost use Rattle.hx_link.specs.MemoryNets.{MemoryDials, MemoryAttaches, MemoryBuries, TellsLinks, TellsCourse};
 ghost use Rattle.hx_link.specs.MemoryNets.{attach_fails, after_attach};
 ghost use Rattle.hx_link.specs.DialNotes.{where_told, note_told};
 
 use crate::memory_link::MemoryLink;
 use crate::net::{Net, NetFault};
 use crate::next_plan::find_plan;
-use crate::plan::Plan;
+use hx_base::Plan;
 use hx_base::{Address, ConnId, Millis, NoMemory, ServerNo, ThreadNo};
 use std::alloc::Global;
 use std::marker::Model;
@@ -47,11 +47,11 @@ impl Model for MemoryNet {
 
     ghost Value = { MemoryNetNow };
 
-    ghost use Rattle.hx_link.specs.MemoryNetView.{net_view, HasPlans};
+    ghost use Rattle.hx_link.specs.MemoryNetView.{net_view, IsNet};
 
     ghost view = { net_view };
 
-    ghost invariant = { HasPlans };
+    ghost invariant = { IsNet };
 }
 
 impl MemoryNet {
@@ -86,7 +86,7 @@ impl MemoryNet {
     /// Lets the k-th attach from now on fail, and no other.
     pub fn fail_attach(&mut self, k: u64)
         requires { 1 ≤ k }
-        ensures { self.new ≡ record self.old { failing = Some k } }
+        ensures { self.new ≡ record self.old { state = record self.old.state { course = Some (record { plans = self.old.plans; failing = Some k }) }; failing = Some k } }
     {
         self.failing = Some(k);
     }
@@ -95,6 +95,7 @@ impl MemoryNet {
     pub fn starved(&self) -> bool
         ensures starved { result ≡ self.now.starved }
         ensures links { TellsLinks self.now }
+        ensures course { TellsCourse self.now }
     {
         self.starved
     }

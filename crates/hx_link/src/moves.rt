@@ -40,7 +40,7 @@ pub fn write_from<L: Link>(link: &mut L, now: Millis, from: &mut Pipe) -> Put
     ensures limit { WriteKeepsLimit (L.state link.old).sent_count result }
     ensures counted { IsCounted (L.state link.old) → IsCounted (L.state link.new) }
 {
-    let put = link.write(now, from.whole());
+    let put = link.write(now, from.front());
     if let Put::Bytes(n) = put {
         from.drop_front(n);
     }

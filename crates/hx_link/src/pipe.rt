@@ -1,5 +1,5 @@
 //! Byte pipes of fixed capacity.
-ghost use Rattle.std.specs.Prelude.{◌≡◌, List, ℕ, ◌+◌, ◌≤◌, ◌-◌, min, length, take, drop, ◌++◌, [], IfOk};
+ghost use Rattle.std.specs.Prelude.{◌≡◌, List, ℕ, ◌+◌, ◌≤◌, ◌<◌, ◌-◌, min, length, take, drop, ◌++◌, [], IfOk};
 ghost use Rattle.hx_link.specs.Pipes.{pipe};
 
 use circular_buffer::HeapCircularBuffer;
@@ -11,7 +11,12 @@ use std::marker::Model;
 #[derive(Drop)]
 pub struct Pipe {
     ring: HeapCircularBuffer<u8>,
+    /// Where the ring's first byte stands. An empty pipe begins at 0 again, so that its bytes seldom wrap.
+    start: usize,
 }
+
+/// Bytes that lead an empty ring back to its front.
+const ZEROS: [u8; 18_432] = [0; 18_432];
 
 impl Model for Pipe {
     ghost use Rattle.hx_link.specs.Pipes.{PipeNow, pipe};
@@ -31,7 +36,7 @@ impl Pipe {
         ensures begins { IfOk result (λ p. p ≡ pipe [] capacity) }
     {
         let ring = HeapCircularBuffer::with_capacity(alloc, capacity)?;
-        Ok(Pipe { ring })
+        Ok(Pipe { ring, start: 0 })
     }
 
     /// Takes the first bytes, as many as fit, and answers how many.
@@ -40,6 +45,14 @@ impl Pipe {
             (self.old.capacity - length self.old.bytes) }
         ensures bytes { self.new ≡ pipe (self.old.bytes ++ take result bytes.now) self.old.capacity }
     {
+        let (len, capacity) = (self.ring.len(), self.ring.capacity());
+        if len == 0 && self.start > 0 && bytes.len() > capacity.saturating_sub(self.start) {
+            // At most as many bytes as are filled in now.
+            let back = capacity.saturating_sub(self.start).min(ZEROS.len());
+            self.ring.fill_from_slice(&ZEROS[..back]);
+            self.ring.truncate_front(0);
+            self.start = 0;
+        }
         self.ring.fill_from_slice(bytes)
     }
 
@@ -50,7 +63,20 @@ impl Pipe {
         ensures same_len { (ws : List ℕ) → length ws ≡ length self.old.bytes
             → refill (length self.old.bytes) self.old.bytes ws ≡ ws }
     {
+        let (len, capacity) = (self.ring.len(), self.ring.capacity());
+        if capacity.saturating_sub(self.start) < len {
+            self.start = capacity.saturating_sub(len);
+        }
         self.ring.make_contiguous()
+    }
+
+    /// Bytes from its front in one piece, as they lie. It moves none.
+    pub fn front(&self) -> &[u8]
+        ensures front { (rest : List ℕ) × (self.now.bytes ≡ result.now ++ rest) }
+        ensures some { 0 < length self.now.bytes → 0 < length result.now }
+    {
+        let (first, second) = self.ring.as_slices();
+        if first.is_empty() { second } else { first }
     }
 
     /// Drops the first bytes.
@@ -58,8 +84,12 @@ impl Pipe {
         requires there { n ≤ length self.old.bytes }
         ensures bytes { self.new ≡ pipe (drop n self.old.bytes) self.old.capacity }
     {
-        let len = self.ring.len();
+        let (len, capacity) = (self.ring.len(), self.ring.capacity());
         self.ring.truncate_front(len - n);
+        self.start = self.start.saturating_add(n);
+        if self.start >= capacity {
+            self.start = self.start.saturating_sub(capacity);
+        }
     }
 
     /// How many bytes it holds.

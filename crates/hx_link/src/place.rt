@@ -5,7 +5,7 @@ ghost use Rattle.hx_link.specs.Told.{most_bytes};
 ghost use Rattle.hx_link.specs.Planned.{planned, has_come, end_has_come, left_of_piece};
 ghost use Rattle.hx_link.specs.Places.{IsPlace, IsNext, FindsDue, moved_on};
 
-use crate::plan::{Piece, Plan};
+use hx_base::{Piece, Plan};
 use hx_base::Millis;
 
 /// The most bytes that are taken of a link.

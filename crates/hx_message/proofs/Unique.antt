@@ -1,5 +1,5 @@
 -- A message has one head, and so one forwarded text.
-use Rattle.std.proofs.Common.{◌≡◌, ℕ, zero, suc, ◌+◌, ◌<◌, ◌≤◌, List, [], ◌∷◌, ◌++◌, refl, sym, ap, subst, ◌∙◌, inl, inr, arith, Bool, true, false, append_assoc, Ok}
+use Rattle.std.proofs.Common.{◌≡◌, ℕ, zero, suc, ◌+◌, ◌<◌, ◌≤◌, List, [], ◌∷◌, ◌++◌, refl, sym, ap, subst, ◌∙◌, inl, inr, arith, Bool, true, false, append_assoc, append-nil, Ok}
 use Rattle.std.specs.List.{flat_map}
 use Rattle.httparse.specs.Grammar.{RequestHead, ResponseHead, ReadsRequest, ReadsResponse, status_code}
 use Rattle.httparse.proofs.GrammarLemmas.{request_unique, response_unique}
@@ -8,6 +8,7 @@ use Rattle.hx_message.specs.declared.BodyKind.{BodyKind}
 use Rattle.hx_message.specs.Body.{Framed, answer_kind}
 use Rattle.hx_message.specs.Forwarded.{BeginsRequest, IsInterim, IsFinal, BeginsInterims, NoRequestBegins, NoAnswerBegins, ForwardsRequest, ForwardsFinal, ForwardsAnswer, forwarded_request, forwarded_answer}
 use Rattle.hx_message.specs.Message.{IsRequestWith, IsAnswerWith}
+use Rattle.hx_message.specs.Partial.{IsPrefix, EndsForwarded, BeginsForwardedAnswer}
 
 pub one_request : (b s t : List ℕ) → ForwardsRequest b s → ForwardsRequest b t → s ≡ t
 one_request b s t (inl (g, r, p, e)) (inl (h, q, p', e')) =
@@ -74,3 +75,34 @@ pub one_answer : (m : MethodKind) (b : List ℕ) (g h : ResponseHead) (k l : Bod
 one_answer m b g h k l x y =
     let same = heads_go x.interims y.interims b x.rest y.rest x.body y.body g h x.begins x.reads x.final y.begins y.reads y.final in
     (same, same_ok k l (answer_kind m g) x.framed (ap (answer_kind m) same ∙ y.framed))
+
+-- ---- beginnings of what goes out for an answer
+
+texts_front : (closing : Bool) (gs hs : List ResponseHead) (b rest rest' last' : List ℕ)
+    → BeginsInterims b gs rest → BeginsInterims b hs rest' → ForwardsFinal rest' closing last'
+    → (more : List ℕ) × (flat_map (λ g. forwarded_answer g false) hs ++ last' ≡ flat_map (λ g. forwarded_answer g false) gs ++ more)
+texts_front closing [] hs b rest rest' last' x y f' = (flat_map (λ g. forwarded_answer g false) hs ++ last', refl)
+texts_front closing (g ∷ gs) [] b rest rest' last' (m, p, i, x) y f' =
+    absurd (not_final b closing last' g m p i (subst (λ (w : List ℕ). ForwardsFinal w closing last') (sym y) f'))
+texts_front closing (g ∷ gs) (h ∷ hs) b rest rest' last' (m, p, i, x) (n, p', i', y) f' =
+    let u = response_unique b g h m n p p' in
+    let r = texts_front closing gs hs m rest rest' last' x (subst (λ (w : List ℕ). BeginsInterims w hs rest') (sym u.1) y) f' in
+    (r.0, append_assoc (forwarded_answer h false) (flat_map (λ g. forwarded_answer g false) hs) last'
+    ∙ ap (λ (w : List ℕ). forwarded_answer h false ++ w) r.1
+    ∙ ap (λ (x : ResponseHead). forwarded_answer x false ++ (flat_map (λ g. forwarded_answer g false) gs ++ r.0)) (sym u.0)
+    ∙ sym (append_assoc (forwarded_answer g false) (flat_map (λ g. forwarded_answer g false) gs) r.0))
+
+pub begins_prefix : (b : List ℕ) (closing : Bool) (front text : List ℕ) → BeginsForwardedAnswer b closing front → ForwardsAnswer b closing text → IsPrefix front text
+begins_prefix b closing front text (gs, rest, x, inl (p, e)) (hs, rest', y, last', f', e') =
+    let r = texts_front closing gs hs b rest rest' last' x y f' in
+    (p ++ r.0, e' ∙ r.1 ∙ ap (λ (w : List ℕ). w ++ r.0) e ∙ append_assoc front p r.0)
+begins_prefix b closing front text (gs, rest, x, inr (g, body, reads, final, (p, e))) goes =
+    let own = flat_map (λ g. forwarded_answer g false) gs ++ (forwarded_answer g closing ++ body) in
+    let same = one_text b closing text own goes (gs, rest, x, forwarded_answer g closing ++ body, inl (g, body, reads, final, refl), refl) in
+    (p, same ∙ e)
+
+pub prefix_begins : (b : List ℕ) (closing : Bool) (front text : List ℕ) → ForwardsAnswer b closing text → IsPrefix front text → BeginsForwardedAnswer b closing front
+prefix_begins b closing front text (gs, rest, x, last, inl (g, body, reads, final, el), e) (p, e') =
+    (gs, rest, x, inr (g, body, reads, final, (p, ap (λ (w : List ℕ). flat_map (λ g. forwarded_answer g false) gs ++ w) (sym el) ∙ sym e ∙ e')))
+prefix_begins b closing front text (gs, rest, x, last, inr (none, el), e) (p, e') =
+    (gs, rest, x, inl (p, sym (append-nil (flat_map (λ g. forwarded_answer g false) gs)) ∙ ap (λ (w : List ℕ). flat_map (λ g. forwarded_answer g false) gs ++ w) (sym el) ∙ sym e ∙ e'))

@@ -3,6 +3,7 @@ pub mod Chunked
 pub mod Exchanges
 pub mod Fields
 pub mod Forwarded
+pub mod Limits
 pub mod Message
 pub mod OwnAnswer
 pub mod Partial

@@ -1,10 +1,12 @@
 -- Messages that came in part, and where a record of them ends.
-use Rattle.std.specs.Prelude.{◌≡◌, ◌⊎◌, ℕ, ◌≤◌, Bool, List, ◌++◌, length, take}
+use Rattle.std.specs.Prelude.{◌≡◌, ◌⊎◌, ℕ, ◌≤◌, Bool, false, List, ◌++◌, length, take}
+use Rattle.std.specs.List.{flat_map}
 use Rattle.httparse.specs.Grammar.{ResponseHead, ReadsResponse}
 use Rattle.hx_message.specs.declared.MethodKind.{MethodKind}
 use Rattle.hx_message.specs.declared.BodyKind.{BodyKind}
 use Rattle.hx_message.specs.declared.BodyKind.TheVariants.{ToEnd}
-use Rattle.hx_message.specs.Forwarded.{ForwardsRequest, ForwardsAnswer, IsFinal, BeginsInterims}
+use Rattle.hx_message.specs.Forwarded.{ForwardsRequest, IsFinal, BeginsInterims, forwarded_answer}
+use Rattle.hx_message.specs.Limits.{IsShortAnswer}
 use Rattle.hx_message.specs.Message.{IsRequest, IsAnswerWith}
 
 -- front stands at the front of the bytes
@@ -26,10 +28,14 @@ HasWholeAnswer m bytes n =
     (n ≤ length bytes)
     × ((g : ResponseHead) × (kind : BodyKind) × IsAnswerWith m (take n bytes) g kind × (kind ≡ ToEnd → ⊥))
 
--- n is the end of the answer that begins there, else of the bytes; one that runs to the end has all bytes
+-- the same, and each of its heads is within the limits
+abbrev pub HasShortAnswer : MethodKind → List ℕ → ℕ → Type 0
+HasShortAnswer m bytes n = HasWholeAnswer m bytes n × IsShortAnswer (take n bytes)
+
+-- n is the end of the answer within the limits that begins there, else of the bytes; one that runs to the end has all bytes
 abbrev pub EndsAnswer : MethodKind → List ℕ → ℕ → Type 0
 EndsAnswer m bytes n =
-    HasWholeAnswer m bytes n ⊎ (((k : ℕ) → HasWholeAnswer m bytes k → ⊥) × (n ≡ length bytes))
+    HasShortAnswer m bytes n ⊎ (((k : ℕ) → HasShortAnswer m bytes k → ⊥) × (n ≡ length bytes))
 
 -- a final head stands behind the interim heads
 abbrev pub HasFinalHead : List ℕ → Type 0
@@ -41,6 +47,16 @@ HasFinalHead bytes =
 abbrev pub BeginsForwardedRequest : List ℕ → List ℕ → Type 0
 BeginsForwardedRequest bytes front = (text : List ℕ) × ForwardsRequest bytes text × IsPrefix front text
 
--- what goes out for the answer's bytes begins so
+-- a final head and what follows it go out so behind that text
+abbrev pub EndsForwarded : List ℕ → Bool → List ℕ → List ℕ → Type 0
+EndsForwarded rest closing before front =
+    (g : ResponseHead) × (body : List ℕ) × ReadsResponse rest g body × IsFinal g
+    × IsPrefix front (before ++ (forwarded_answer g closing ++ body))
+
+-- what goes out for the answer's bytes begins so: it is a beginning of the texts of interim heads that stand at the front,
+-- or of these texts, that of a final head behind them, and what follows it
 abbrev pub BeginsForwardedAnswer : List ℕ → Bool → List ℕ → Type 0
-BeginsForwardedAnswer bytes closing front = (text : List ℕ) × ForwardsAnswer bytes closing text × IsPrefix front text
+BeginsForwardedAnswer bytes closing front =
+    (gs : List ResponseHead) × (rest : List ℕ) × BeginsInterims bytes gs rest
+    × (IsPrefix front (flat_map (λ g. forwarded_answer g false) gs)
+    ⊎ EndsForwarded rest closing (flat_map (λ g. forwarded_answer g false) gs) front)

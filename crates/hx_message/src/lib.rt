@@ -5,6 +5,7 @@ ghost use Rattle.std.specs.Prelude.{◌≡◌, ℕ, List, Bool};
 ghost use Rattle.hx_message.specs.Forwarded.{ForwardsRequest, ForwardsAnswer};
 ghost use Rattle.httparse.specs.Grammar.{ResponseHead};
 ghost use Rattle.hx_message.specs.Message.{IsAnswerWith};
+ghost use Rattle.hx_message.specs.Partial.{IsPrefix, BeginsForwardedAnswer};
 
 /// What a method does to the framing of its answer (RFC 9110, sections 9.3.2 and 9.3.6).
 #[derive(Clone, Copy, Debug, PartialEq, Eq)]
@@ -47,4 +48,8 @@ pub fn one_meaning()
         → ForwardsAnswer bytes closing s → ForwardsAnswer bytes closing t → s ≡ t }
     ensures head { (m : MethodKind) (bytes : List ℕ) (g h : ResponseHead) (k l : BodyKind)
         → IsAnswerWith m bytes g k → IsAnswerWith m bytes h l → (g ≡ h) × (k ≡ l) }
+    ensures begins { (bytes : List ℕ) (closing : Bool) (front text : List ℕ)
+        → BeginsForwardedAnswer bytes closing front → ForwardsAnswer bytes closing text → IsPrefix front text }
+    ensures all { (bytes : List ℕ) (closing : Bool) (front text : List ℕ)
+        → ForwardsAnswer bytes closing text → IsPrefix front text → BeginsForwardedAnswer bytes closing front }
 {}

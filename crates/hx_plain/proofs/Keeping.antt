@@ -13,14 +13,14 @@ use Rattle.hx_pool.specs.declared.entries.Found.TheVariants.{Empty}
 use Rattle.hx_pool.specs.declared.entries.Entry.TheVariants.{Take, Free, Down, Look, SetGate}
 use Rattle.hx_pool.specs.declared.entries.Note.{Note}
 use Rattle.hx_pool.specs.Table.{Spot, Vacant, found_of}
-use Rattle.hx_pool.specs.History.{plain, entries_of, marks_of, what_of}
+use Rattle.hx_pool.specs.History.{plain, entries_of, marks_of, what_of, IsEven}
 use Rattle.hx_pool.specs.SeatView.{About, IsOneHistory, Calls, Grows}
 use Rattle.hx_pool.specs.Causes.{place_of, Among, AllLooks, IsUnavailable}
 use Rattle.hx_pool.specs.Taking.{taking, Takes}
 use Rattle.hx_pool.specs.Drain.{since_after, since_from, since_drain}
 use Rattle.hx_pool.specs.Totals.{totals_after, totals_from}
-use Rattle.hx_pool.proofs.Histories.{since_from-append, marks_of-append, totals_more}
-use Rattle.hx_pool.proofs.Calls.{looks_marks}
+use Rattle.hx_pool.proofs.Histories.{since_from-append, marks_of-append, totals_more, even-append}
+use Rattle.hx_pool.proofs.Calls.{looks_marks, looks_even}
 use Rattle.hx_pool.proofs.Purges.{among_left, among_right, covered_left}
 use Rattle.hx_plain.specs.Book.{Book, add_notes}
 use Rattle.hx_plain.specs.Row.{Rested, spot_in, look_at, looks_run}
@@ -87,18 +87,18 @@ totals_from-looks t (x ∷ xs) ys s l = ap (λ (y : Note). totals_from (totals_a
 pub marks_after_looks : (t : ThreadNo) (xs ys : List Note) → AllLooks t xs → marks_of (xs ++ ys) ≡ marks_of ys
 marks_after_looks t xs ys l = marks_of-append xs ys ∙ ap (λ m. m ++ marks_of ys) (looks_marks t xs l)
 
-pub calls_by : (a : About) (p : Option ℕ) (notes ys : List Note) → IsOneHistory a notes notes → IsOneHistory a (notes ++ ys) (notes ++ ys) → Calls (alone a p notes) (alone a p (notes ++ ys)) ys
-calls_by a p notes ys was one = record { makes = made a p p notes ys was one; passed = refl }
+pub calls_by : (a : About) (p : Option ℕ) (notes ys : List Note) → IsOneHistory a notes notes → IsOneHistory a (notes ++ ys) (notes ++ ys) → IsEven ys → Calls (alone a p notes) (alone a p (notes ++ ys)) ys
+calls_by a p notes ys was one even = record { makes = made a p p notes ys was one even; passed = refl }
 
 pub calls_none : (a : About) (p : Option ℕ) (notes : List Note) → IsOneHistory a notes notes → Calls (alone a p notes) (alone a p notes) []
-calls_none a p notes one = record { makes = record { about = refl; mine = sym (append-nil notes); seen = ([], sym (append-nil notes)); was = one; one = one }; passed = refl }
+calls_none a p notes one = record { makes = record { about = refl; mine = sym (append-nil notes); seen = ([], sym (append-nil notes)); was = one; one = one; even = refl }; passed = refl }
 
 -- mine gained these entries, whose marks are told
-pub grows_by : (a : About) (p q : Option ℕ) (notes ys : List Note) (last : List Entry) → last ≡ marks_of ys → length ys ≤ 4096 → Grows (alone a p notes) (alone a q (notes ++ ys)) last
-grows_by a p q notes ys last e few = record { added = ys; mine = refl; marks = e; few = few }
+pub grows_by : (a : About) (p q : Option ℕ) (notes ys : List Note) (last : List Entry) → IsOneHistory a notes notes → IsOneHistory a (notes ++ ys) (notes ++ ys) → IsEven ys → last ≡ marks_of ys → length ys ≤ 4096 → Grows (alone a p notes) (alone a q (notes ++ ys)) last
+grows_by a p q notes ys last was one even e few = record { added = ys; makes = made a p q notes ys was one even; marks = e; few = few }
 
-pub grows_none : (a : About) (p q : Option ℕ) (notes : List Note) → Grows (alone a p notes) (alone a q notes) []
-grows_none a p q notes = record { added = []; mine = sym (append-nil notes); marks = refl; few = omega arith }
+pub grows_none : (a : About) (p q : Option ℕ) (notes : List Note) → IsOneHistory a notes notes → Grows (alone a p notes) (alone a q notes) []
+grows_none a p q notes one = record { added = []; makes = record { about = refl; mine = sym (append-nil notes); seen = ([], sym (append-nil notes)); was = one; one = one; even = refl }; marks = refl; few = omega arith }
 
 module _ (a : About) (notes : List Note) (k : Known) (rests : List Rested) where
   pub run_stands : Stands a notes k rests → (from c : ℕ) → from + c ≤ 64 → Stands a (notes ++ looks_run a.thread rests from c) k rests
@@ -145,7 +145,7 @@ takes_by a p q notes looks n first place v count was one looked server what = re
   looks = looks;
   count = count;
   looked = looked;
-  makes = made a p q notes (looks ++ taking a.thread n first place v.face count) was one;
+  makes = made a p q notes (looks ++ taking a.thread n first place v.face count) was one (even-append looks (taking a.thread n first place v.face count) (looks_even a.thread looks looked) refl);
   server = server;
   between = looks;
   behind = plain (Free a.thread place) ∷ plain (Down a.thread count) ∷ [];

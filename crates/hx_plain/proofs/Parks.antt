@@ -20,7 +20,8 @@ use Rattle.hx_pool.specs.SeatView.{About, Grows}
 use Rattle.hx_pool.specs.Causes.{place_of, Among, ShowsTaken}
 use Rattle.hx_pool.specs.Parking.{CanPark, KeepsSome, FindsVacant, Parks, RefusesPark, gated, parked}
 use Rattle.hx_pool.specs.Totals.{totals_after}
-use Rattle.hx_pool.proofs.Calls.{has_kept, looks_marks, marks_parked}
+use Rattle.hx_pool.proofs.Histories.{even-append}
+use Rattle.hx_pool.proofs.Calls.{has_kept, looks_marks, looks_even, marks_parked}
 use Rattle.hx_plain.specs.declared.rest.Rest.{Rest}
 use Rattle.hx_plain.specs.Book.{Book, add_note, add_notes}
 use Rattle.hx_plain.specs.Row.{Rested, rests_of, spot_in, looks_run, Scanned, IsFirstVacant, Admits, Refuses, RefusedByRules}
@@ -136,12 +137,12 @@ module _ (a : About) (p : Option ℕ) (t : Totals) (room : ℕ) (old : Book) (n 
           shares,
           keeps,
           record {
-            looks = record { looks = L; looked = looked; makes = made a p p old.notes L s.stands.one st.one };
+            looks = record { looks = L; looked = looked; makes = made a p p old.notes L s.stands.one st.one (looks_even a.thread L looked) };
             passed = refl;
             taken = λ q h. shows_taken a.thread rests 64 q h (scan.taken q h);
           },
         ),
-        grows_by a p p old.notes L [] (sym (looks_marks a.thread L looked)) (let e = length-looks_run a.thread rests 0 64 in omega arith),
+        grows_by a p p old.notes L [] s.stands.one st.one (looks_even a.thread L looked) (sym (looks_marks a.thread L looked)) (let e = length-looks_run a.thread rests 0 64 in omega arith),
         refl,
       )
 
@@ -157,9 +158,9 @@ module _ (a : About) (p : Option ℕ) (t : Totals) (room : ℕ) (old : Book) (n 
         (
           shares,
           keeps,
-          inl (record { looks = L; place = place_of a.thread.0 q; looked = looked; found = finds_vacant a.thread rests q first; makes = calls_by a p old.notes ys s.stands.one st.one }),
+          inl (record { looks = L; place = place_of a.thread.0 q; looked = looked; found = finds_vacant a.thread rests q first; makes = calls_by a p old.notes ys s.stands.one st.one (even-append L _ (looks_even a.thread L looked) refl) }),
         ),
-        grows_by a p p old.notes ys [] (sym (marks_after_looks a.thread L _ looked)) (let e = length-looks_run a.thread rests 0 (q + 1) in omega (arith, length-append L (plain (Gate a.thread true) ∷ []))),
+        grows_by a p p old.notes ys [] s.stands.one st.one (even-append L _ (looks_even a.thread L looked) refl) (sym (marks_after_looks a.thread L _ looked)) (let e = length-looks_run a.thread rests 0 (q + 1) in omega (arith, length-append L (plain (Gate a.thread true) ∷ []))),
         refl,
       )
 
@@ -177,9 +178,9 @@ module _ (a : About) (p : Option ℕ) (t : Totals) (room : ℕ) (old : Book) (n 
         (
           shares,
           keeps,
-          record { looks = L; place = place_of a.thread.0 q; down = length rests + 1; looked = looked; found = finds_vacant a.thread rests q first; limit = limit; makes = calls_by a p old.notes ys s.stands.one st.one },
+          record { looks = L; place = place_of a.thread.0 q; down = length rests + 1; looked = looked; found = finds_vacant a.thread rests q first; limit = limit; makes = calls_by a p old.notes ys s.stands.one st.one (even-append L _ (looks_even a.thread L looked) refl) },
         ),
-        grows_by a p p old.notes ys [] (sym (marks_after_looks a.thread L _ looked)) (let e = length-looks_run a.thread rests 0 (q + 1) in omega (arith, length-append L (plain (Gate a.thread false) ∷ es))),
+        grows_by a p p old.notes ys [] s.stands.one st.one (even-append L _ (looks_even a.thread L looked) refl) (sym (marks_after_looks a.thread L _ looked)) (let e = length-looks_run a.thread rests 0 (q + 1) in omega (arith, length-append L (plain (Gate a.thread false) ∷ es))),
         refl,
       ))
 
@@ -256,9 +257,9 @@ module _ (a : About) (notes : List Note) (n : ℕ) (o : ℕ) (rests : List Reste
           found = finds_vacant a.thread rests q first;
           limit = limit;
           settles = inl refl;
-          makes = calls_by a p notes ys s.one put_stands.one;
+          makes = calls_by a p notes ys s.one put_stands.one (even-append L _ (looks_even a.thread L looked) refl);
         },
-        grows_by a p p notes ys _ (sym (marks_parked L a.thread m (place_of a.thread.0 q) v (length rests) (plain (Gate a.thread false) ∷ []) looked (inl refl))) (let e = length-looks_run a.thread rests 0 (q + 1) in omega (arith, length-append L (plain (Gate a.thread false) ∷ es))),
+        grows_by a p p notes ys _ s.one put_stands.one (even-append L _ (looks_even a.thread L looked) refl) (sym (marks_parked L a.thread m (place_of a.thread.0 q) v (length rests) (plain (Gate a.thread false) ∷ []) looked (inl refl))) (let e = length-looks_run a.thread rests 0 (q + 1) in omega (arith, length-append L (plain (Gate a.thread false) ∷ es))),
       )
 
 pub parked_note : (t : ThreadNo) (m : SessionNo) (q : ℕ) (v : Shown) (f : Face) → f ≡ v.face → let y : Note = record { entry = Park t m f.id (place_of t.0 q) f.uses; what = Some v.what } in y ≡ parked t m (place_of t.0 q) v

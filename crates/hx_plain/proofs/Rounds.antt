@@ -1,6 +1,6 @@
 -- Purge intervals: a new one gives a quota, an old one none.
 use Rattle.std.proofs.Common.{◌≡◌, ◌≢◌, ℕ, ◌-◌, ◌<◌, ◌≤◌, cond, Bool, List, [], ◌∷◌, ◌++◌, length, refl, sym, ap, subst, arith, Option, inr, append_assoc}
-use Rattle.std.proofs.lemmas.Bool.{le-ltb}
+use Rattle.std.proofs.lemmas.Bool.{le-ltb, lt-ltb}
 use Rattle.std.specs.Prelude.{max}
 use Rattle.hx_base.specs.declared.numbers.Millis.{Millis}
 use Rattle.hx_base.specs.declared.totals.Totals.{Totals}
@@ -23,12 +23,12 @@ module _ (a : About) (p : Option ℕ) (notes : List Note) (n : ℕ) (d : Bool) (
       let st = raised o (omega arith) in
       let ys : List Note = plain (Round a.thread k o) ∷ [] in (
         keeps_on a notes (known n d o rests) rests p t room s ys (known n d o rests) rests t room st (tt, tt) refl s.roomy,
-        inr (some, record { was = o; late = subst (λ (j : ℕ). j ≤ o) is late; makes = subst (λ (j : ℕ). Rattle.hx_pool.specs.SeatView.Calls (alone a p notes) (alone a p (notes ++ ys)) (plain (Round a.thread j o) ∷ [])) is (calls_by a p notes ys s.stands.one st.one) }),
-        grows_by a p p notes ys [] (sym (ap (λ (b : Bool). cond b (Round a.thread k o ∷ []) []) (le-ltb o k late))) (omega arith),
+        inr (some, record { was = o; late = subst (λ (j : ℕ). j ≤ o) is late; makes = subst (λ (j : ℕ). Rattle.hx_pool.specs.SeatView.Calls (alone a p notes) (alone a p (notes ++ ys)) (plain (Round a.thread j o) ∷ [])) is (calls_by a p notes ys s.stands.one st.one refl) }),
+        grows_by a p p notes ys [] s.stands.one st.one refl (sym (ap (λ (b : Bool). cond b (Round a.thread k o ∷ []) []) (le-ltb o k late))) (omega arith),
       )
 
   pub is_due : o < k → (c : ℕ) → c ≡ length rests → let hs : List Note = notes ++ plain (Round a.thread k o) ∷ plain (Count a.thread c) ∷ [] in
-      KeepsAll a hs (known n d k rests) rests p t room × GivesQuota (alone a p notes) (alone a p hs) now (record { left = quota_of c (k - o); row = a.thread.0; place = 0; seen = 0 })
+      KeepsAll a hs (known n d k rests) rests p t room × GivesQuota (alone a p notes) (alone a p hs) now (record { left = quota_of c (k - o); row = a.thread.0; place = 0; seen = 0 }) × Grows (alone a p notes) (alone a p hs) (Round a.thread k o ∷ [])
   is_due early c counted =
       let x : Note = plain (Round a.thread k o) in
       let y : Note = plain (Count a.thread c) in
@@ -41,7 +41,8 @@ module _ (a : About) (p : Option ℕ) (notes : List Note) (n : ℕ) (d : Bool) (
           was = o;
           early = subst (λ (j : ℕ). o < j) is early;
           c = c;
-          makes = subst (λ (j : ℕ). Rattle.hx_pool.specs.SeatView.Calls (alone a p notes) (alone a p (notes ++ x ∷ y ∷ [])) (plain (Round a.thread j o) ∷ y ∷ [])) is (calls_by a p notes (x ∷ y ∷ []) s.stands.one two.one);
+          makes = subst (λ (j : ℕ). Rattle.hx_pool.specs.SeatView.Calls (alone a p notes) (alone a p (notes ++ x ∷ y ∷ [])) (plain (Round a.thread j o) ∷ y ∷ [])) is (calls_by a p notes (x ∷ y ∷ []) s.stands.one two.one refl);
           answer = ap (λ (j : ℕ). let q : Rattle.hx_pool.specs.declared.budget.Quota.Quota = record { left = quota_of c (j - o); row = a.thread.0; place = 0; seen = 0 } in q) is;
         },
+        grows_by a p p notes (x ∷ y ∷ []) _ s.stands.one two.one refl (sym (ap (λ (b : Bool). cond b (Round a.thread k o ∷ []) []) (lt-ltb o k early))) (omega arith),
       )

@@ -9,7 +9,7 @@ use Rattle.hx_pool.specs.declared.entries.Entry.{Entry}
 use Rattle.hx_pool.specs.declared.entries.Entry.TheVariants.{Open, Close, Look, Up, Down, Count, Gate, SetGate, Round}
 use Rattle.hx_pool.specs.declared.entries.Note.{Note}
 use Rattle.hx_pool.specs.Table.{Table, Needs, after, empty_table, found_of, spot_at}
-use Rattle.hx_pool.specs.History.{plain, thread_of, own_of, table_from, table_after, EachStep, MeetsNeeds, what_of, opens_of, is_open}
+use Rattle.hx_pool.specs.History.{plain, thread_of, own_of, table_from, table_after, EachStep, MeetsNeeds, what_of, opens_of, is_open, IsEven}
 use Rattle.hx_pool.specs.Rules.{MayFollow, IsBelowMax}
 use Rattle.hx_pool.specs.Held.{Has}
 use Rattle.hx_pool.specs.SeatView.{About, IsOneHistory, Makes}
@@ -45,8 +45,8 @@ one_more a notes x one mine need keeps below = record {
   inside = one.inside;
 }
 
-pub made : (a : About) (p q : Option ℕ) (xs ys : List Note) → IsOneHistory a xs xs → IsOneHistory a (xs ++ ys) (xs ++ ys) → Makes (alone a p xs) (alone a q (xs ++ ys)) ys
-made a p q xs ys was one = record { about = refl; mine = refl; seen = (ys, refl); was = was; one = one }
+pub made : (a : About) (p q : Option ℕ) (xs ys : List Note) → IsOneHistory a xs xs → IsOneHistory a (xs ++ ys) (xs ++ ys) → IsEven ys → Makes (alone a p xs) (alone a q (xs ++ ys)) ys
+made a p q xs ys was one even = record { about = refl; mine = refl; seen = (ys, refl); was = was; one = one; even = even }
 
 -- an entry that is no Park leaves what stands beside the last Parks
 pub kept_more : (notes : List Note) (x : Note) (server : ServerNo) (rests : List Rested) → ((i : ℕ) → (after (table_after notes) x).whats i ≡ what_of notes i) → AreKept notes server rests → AreKept (notes ++ x ∷ []) server rests

@@ -17,7 +17,8 @@ use Rattle.hx_pool.specs.Taking.{taking}
 use Rattle.hx_pool.specs.Drain.{DrainsOne, DrainsNone}
 use Rattle.hx_pool.specs.Purge.{Passes, PurgesOne, PurgesNone}
 use Rattle.hx_pool.specs.Totals.{totals_after}
-use Rattle.hx_pool.proofs.Calls.{looks_marks, marks_taking}
+use Rattle.hx_pool.proofs.Histories.{even-append}
+use Rattle.hx_pool.proofs.Calls.{looks_marks, looks_even, marks_taking}
 use Rattle.hx_pool.proofs.Purges.{among_right, covered_left, unavailable_by}
 use Rattle.hx_plain.specs.Book.{Book, add_notes}
 use Rattle.hx_plain.specs.Row.{Rested, spot_in, looks_run, Ran, Swept}
@@ -78,11 +79,11 @@ module _ (a : About) (few : a.threads ≡ 1) (old : Book) (n : ℕ) (d : Bool) (
       subst P (sym ran.book) (
         record { stands = kept.stands; drains = (omega arith, (es, more, cover)); counted = kept.counted; roomy = kept.roomy },
         record {
-          looks = record { looks = L; looked = looked; makes = made a (Some p) (Some 64) old.notes L st.one gone.one };
+          looks = record { looks = L; looked = looked; makes = made a (Some p) (Some 64) old.notes L st.one gone.one (looks_even a.thread L looked) };
           passed = ap Some (let z : 64 ≡ 64 * a.threads = omega arith in z);
           all = subst (λ (x : Option (List Note)). IfSome x (λ xs. AllCovered a xs)) (sym more) (all_covered a es inside few cover);
         },
-        grows_by a (Some p) (Some 64) old.notes L [] (sym (looks_marks a.thread L looked)) (let e = length-looks_run a.thread rests p c in omega arith),
+        grows_by a (Some p) (Some 64) old.notes L [] st.one gone.one (looks_even a.thread L looked) (sym (looks_marks a.thread L looked)) (let e = length-looks_run a.thread rests p c in omega arith),
       )
 
   -- a purge that found nothing
@@ -106,10 +107,10 @@ module _ (a : About) (few : a.threads ≡ 1) (old : Book) (n : ℕ) (d : Bool) (
             looks = L;
             looked = looked;
             none = subst (λ (j : ℕ). Passes a L from j) sum (passes from c ran.vacant (omega arith));
-            makes = calls_by a p old.notes L st.one gone.one;
+            makes = calls_by a p old.notes L st.one gone.one (looks_even a.thread L looked);
           },
         ),
-        grows_by a p p old.notes L [] (sym (looks_marks a.thread L looked)) (let e = length-looks_run a.thread rests from c in omega arith),
+        grows_by a p p old.notes L [] st.one gone.one (looks_even a.thread L looked) (sym (looks_marks a.thread L looked)) (let e = length-looks_run a.thread rests from c in omega arith),
       )
 
   module _ (left : List Rested) (from c : ℕ) (v : Shown) (new : Book) (sw : Swept old new rests left a.thread from c v) where
@@ -144,7 +145,7 @@ module _ (a : About) (few : a.threads ≡ 1) (old : Book) (n : ℕ) (d : Bool) (
     few_entries = let e = length-looks_run a.thread rests from c in let low = sw.inside in omega (arith, length-append (looks_run a.thread rests from c) (taking a.thread caretaker false N v.face (length rests)))
 
     marks_are : (p q : Option ℕ) → Grows (alone a p old.notes) (alone a q (old.notes ++ swept_entries)) (Take a.thread caretaker false (place_of a.thread.0 (from + c)) v.face.id v.face.uses ∷ [])
-    marks_are p q = grows_by a p q old.notes swept_entries _
+    marks_are p q = grows_by a p q old.notes swept_entries _ st.one gone.one (even-append (looks_run a.thread rests from c) (taking a.thread caretaker false N v.face (length rests)) (looks_even a.thread (looks_run a.thread rests from c) (run_looks a.thread rests from c)) refl)
         (ap (λ (pl : PlaceNo). Take a.thread caretaker false pl v.face.id v.face.uses ∷ []) nth ∙ sym (marks_taking (looks_run a.thread rests from c) a.thread caretaker false N v.face (length rests) (run_looks a.thread rests from c)))
         few_entries
 
@@ -228,7 +229,7 @@ module _ (a : About) (few : a.threads ≡ 1) (old : Book) (n : ℕ) (d : Bool) (
 -- no drain was set
 pub drain_never : (a : About) (notes : List Note) (k : Known) (rests : List Rested) (t : Totals) (room : ℕ) → KeepsAll a notes k rests None t room → DrainsNone (alone a None notes) (alone a None notes)
 drain_never a notes k rests t room s = record {
-  looks = record { looks = []; looked = tt; makes = record { about = refl; mine = sym (append-nil notes); seen = ([], sym (append-nil notes)); was = s.stands.one; one = s.stands.one } };
+  looks = record { looks = []; looked = tt; makes = record { about = refl; mine = sym (append-nil notes); seen = ([], sym (append-nil notes)); was = s.stands.one; one = s.stands.one; even = refl } };
   passed = refl;
   all = subst (λ (x : Option (List Note)). IfSome x (λ xs. AllCovered a xs)) (sym s.drains) tt;
 }

@@ -102,7 +102,7 @@ module _ (a : About) (p : Option ℕ) (notes : List Note) (k : Known) (rests : L
   -- where none fits, nothing that is allowed rests in the row
   pub took_none : NoneFits a.rules.mode first true rests → NoneFits a.rules.mode first false rests → TakesNoneOwn (alone a p notes) (alone a p notes) first
   took_none none none' = record {
-    looks = record { looks = []; looked = tt; makes = record { about = refl; mine = sym (append-nil notes); seen = ([], sym (append-nil notes)); was = s.one; one = s.one } };
+    looks = record { looks = []; looked = tt; makes = record { about = refl; mine = sym (append-nil notes); seen = ([], sym (append-nil notes)); was = s.one; one = s.one; even = refl } };
     passed = refl;
     none = λ q f low here.
         let at = spot_from rests q f (sym (s.spots_are q low) ∙ here) in

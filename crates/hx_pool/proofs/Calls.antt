@@ -11,14 +11,14 @@ use Rattle.hx_pool.specs.declared.entries.Entry.TheVariants.{Open, Park, Take, U
 use Rattle.hx_pool.specs.declared.entries.Note.{Note}
 use Rattle.hx_pool.specs.declared.refusals.NoPark.{NoPark}
 use Rattle.hx_pool.specs.declared.refusals.NoPark.TheVariants.{Never, NoneKept, RowFull, Draining, PoolFull}
-use Rattle.hx_pool.specs.History.{plain, marks_of}
+use Rattle.hx_pool.specs.History.{plain, marks_of, IsEven}
 use Rattle.hx_pool.specs.Held.{Hold, hold, hold_after, hold_from, hold_of, Has}
 use Rattle.hx_pool.specs.SeatView.{History, Makes}
 use Rattle.hx_pool.specs.Causes.{AllLooks}
 use Rattle.hx_pool.specs.Opening.{HasConn}
 use Rattle.hx_pool.specs.Taking.{taking}
 use Rattle.hx_pool.specs.Parking.{CanPark, parked, gated, Settles, FindsDraining, TakesBack, RefusesPark}
-use Rattle.hx_pool.proofs.Histories.{hold_from-append, marks_of-append}
+use Rattle.hx_pool.proofs.Histories.{hold_from-append, marks_of-append, even-append}
 
 -- two calls, one after the other
 pub makes_both : (a b c : History) (xs ys : List Note) → Makes a b xs → Makes b c ys → Makes a c (xs ++ ys)
@@ -28,12 +28,18 @@ makes_both a b c xs ys m k = record {
   seen = (m.seen.0 ++ k.seen.0, k.seen.1 ∙ (ap (λ l. l ++ k.seen.0) m.seen.1 ∙ append_assoc a.seen m.seen.0 k.seen.0));
   was = m.was;
   one = k.one;
+  even = even-append xs ys m.even k.even;
 }
 
 -- looks change no hold
 pub looks_hold : (t : ThreadNo) (looks : List Note) (i : ℕ) (o : Option Hold) → AllLooks t looks → hold_from i o looks ≡ o
 looks_hold t [] i o l = refl
 looks_hold t (x ∷ xs) i o l = ap (λ (y : Note). hold_from i (hold_after i o y.entry) xs) l.0.2 ∙ looks_hold t xs i o l.1
+
+-- looks change no count
+pub looks_even : (t : ThreadNo) (looks : List Note) → AllLooks t looks → IsEven looks
+looks_even t [] l = refl
+looks_even t (x ∷ xs) l = even-append (x ∷ []) xs (subst (λ (y : Note). IsEven (y ∷ [])) (sym l.0.2) refl) (looks_even t xs l.1)
 
 -- looks are no marks
 pub looks_marks : (t : ThreadNo) (looks : List Note) → AllLooks t looks → marks_of looks ≡ []

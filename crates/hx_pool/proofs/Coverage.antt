@@ -6,7 +6,8 @@ use Rattle.hx_pool.specs.declared.budget.Quota.{Quota}
 use Rattle.hx_pool.specs.declared.entries.Note.{Note}
 use Rattle.hx_pool.specs.SeatView.{About, History}
 use Rattle.hx_pool.specs.Causes.{IsCovered, AllCovered, place_of, nth_place}
-use Rattle.hx_pool.specs.Purge.{takes_of, quota_of, PurgesNone, IsUnderQuota, UsesQuota}
+use Rattle.hx_pool.specs.History.{takes_of}
+use Rattle.hx_pool.specs.Purge.{quota_of, PurgesNone, IsUnderQuota, UsesQuota}
 use Rattle.hx_pool.proofs.Purges.{purge_stays, le_cases}
 
 -- the row that comes k rows after the thread's own

@@ -1,5 +1,5 @@
 -- Histories, one after another.
-use Rattle.std.proofs.Common.{◌≡◌, ℕ, ◌+◌, List, [], ◌∷◌, ◌++◌, refl, ap, ◌∙◌, Option}
+use Rattle.std.proofs.Common.{◌≡◌, ℕ, ◌+◌, List, [], ◌∷◌, ◌++◌, refl, ap, ◌∙◌, Option, arith}
 use Rattle.std.proofs.lemmas.List.{map-append}
 use Rattle.std.proofs.lemmas.List.Elements.{filter-append}
 use Rattle.std.proofs.lemmas.List.Sums.{sum_by-append}
@@ -11,7 +11,7 @@ use Rattle.hx_base.specs.declared.totals.Totals.{Totals}
 use Rattle.hx_pool.specs.declared.entries.Entry.{Entry}
 use Rattle.hx_pool.specs.declared.entries.Note.{Note}
 use Rattle.hx_pool.specs.Table.{Table, after}
-use Rattle.hx_pool.specs.History.{is_mark, entries_of, marks_of, is_by, own_of, is_open, opens_of, table_from, EachStep}
+use Rattle.hx_pool.specs.History.{is_mark, entries_of, marks_of, is_by, own_of, is_open, opens_of, is_take, is_park, is_up, is_down, IsEven, table_from, EachStep}
 use Rattle.hx_pool.specs.Held.{Hold, hold_after, hold_from, held_after, held_from}
 use Rattle.hx_pool.specs.SeatView.{AllBelow}
 use Rattle.hx_pool.specs.Drain.{since_after, since_from}
@@ -44,6 +44,14 @@ marks_of-append xs ys = ap (λ l. filter is_mark l) (entries_of-append xs ys) �
 
 pub opens_of-append : (xs ys : List Note) → opens_of (xs ++ ys) ≡ opens_of xs + opens_of ys
 opens_of-append xs ys = sum_by-append (λ (x : Note). cond (is_open x) 1 0) xs ys
+
+pub even-append : (xs ys : List Note) → IsEven xs → IsEven ys → IsEven (xs ++ ys)
+even-append xs ys a b =
+    let u = sum_by-append (λ (x : Note). cond (is_up x) 1 0) xs ys in
+    let d = sum_by-append (λ (x : Note). cond (is_down x) 1 0) xs ys in
+    let p = sum_by-append (λ (x : Note). cond (is_park x) 1 0) xs ys in
+    let t = sum_by-append (λ (x : Note). cond (is_take x) 1 0) xs ys in
+    omega arith
 
 pub AllBelow-append : (n : ℕ) (xs ys : List Note) → AllBelow n xs → AllBelow n ys → AllBelow n (xs ++ ys)
 AllBelow-append n [] ys a b = b

@@ -8,7 +8,7 @@ use Rattle.hx_pool.specs.Journal.{EndsWithStored}
 use Rattle.hx_pool.proofs.Histories.{marks_of-append}
 
 grown : (h k : History) (last : List Entry) → Grows h k last → marks_of k.mine ≡ marks_of h.mine ++ last
-grown h k last g = ap marks_of g.mine ∙ (marks_of-append h.mine g.added ∙ ap (λ l. marks_of h.mine ++ l) (sym g.marks))
+grown h k last g = ap marks_of g.makes.mine ∙ (marks_of-append h.mine g.added ∙ ap (λ l. marks_of h.mine ++ l) (sym g.marks))
 
 pub kept_on : (h k : History) (last list : List Entry) (stored new : List Entry) (w v : Bool) → EndsWithStored h stored w → Grows h k last → list ≡ last
     → (v ≡ true → (w ≡ true) × (new ≡ stored ++ list)) → EndsWithStored k new v

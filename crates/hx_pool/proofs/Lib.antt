@@ -12,3 +12,9 @@ pub mod Telling
 pub mod Rows
 pub mod Samples
 pub mod Owning
+pub mod HeldCalls
+pub mod Counting
+pub mod Emptied
+pub mod WantSamples
+pub mod Storing
+pub mod CountsRest

@@ -16,7 +16,8 @@ use Rattle.hx_pool.specs.declared.entries.Entry.TheVariants.{Look}
 use Rattle.hx_pool.specs.SeatView.{History}
 use Rattle.hx_pool.specs.Causes.{AllLooks, Among, IsTakeAt, IsUnavailable, IsCovered, nth_place, caretaker}
 use Rattle.hx_pool.specs.Taking.{taking}
-use Rattle.hx_pool.specs.Purge.{is_take, takes_of, PurgesOne, EndsPurge, PurgesNone, IsUnderQuota, KeepsQuota}
+use Rattle.hx_pool.specs.History.{is_take, takes_of}
+use Rattle.hx_pool.specs.Purge.{PurgesOne, EndsPurge, PurgesNone, IsUnderQuota, KeepsQuota}
 
 pub takes_of-append : (xs ys : List Note) → takes_of (xs ++ ys) ≡ takes_of xs + takes_of ys
 takes_of-append xs ys = sum_by-append (λ (x : Note). cond (is_take x) 1 0) xs ys

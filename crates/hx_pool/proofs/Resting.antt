@@ -38,7 +38,7 @@ in_put (suc k) S u d l = dite (ℕ_discrete u k)
 in_far : (k : ℕ) (S : ℕ → Spot) (u : ℕ) (d : Spot) → k ≤ u → resting_in (put S u d) k ≡ resting_in S k
 in_far k S u d l = in_same k (put S u d) S (λ j low. put_other S u d j (λ z. omega arith))
 
-some_in : (k : ℕ) (S : ℕ → Spot) (u : ℕ) → u < k → holds_one (S u) ≤ resting_in S k
+pub some_in : (k : ℕ) (S : ℕ → Spot) (u : ℕ) → u < k → holds_one (S u) ≤ resting_in S k
 some_in zero S u l = absurd (omega arith)
 some_in (suc k) S u l = dite (ℕ_discrete u k)
     (λ e. let is : holds_one (S u) ≡ holds_one (S k) = ap (λ z. holds_one (S z)) e in omega arith)
@@ -55,7 +55,7 @@ put_inside threads S u d new old k f h = dite (ℕ_discrete k u)
     (λ e. let low = new f (sym (put_same S u d k e) ∙ h) in omega arith)
     (λ n. old k f (sym (put_other S u d k n) ∙ h))
 
-counted_entry : (threads : ℕ) (T : Table) (w : Option What) (e : Entry) → (thread_of e).0 < threads → Needs T e → IsCounted threads T → IsCounted threads (after_entry T w e)
+pub counted_entry : (threads : ℕ) (T : Table) (w : Option What) (e : Entry) → (thread_of e).0 < threads → Needs T e → IsCounted threads T → IsCounted threads (after_entry T w e)
 counted_entry threads T w (Open t n id) low need c = record { inside = c.inside; resting_is = c.resting_is }
 counted_entry threads T w (Park t n id place uses) low need c =
     let row = need.row in let inside = need.inside in

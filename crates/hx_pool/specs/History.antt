@@ -1,5 +1,5 @@
 -- Histories: lists of entries, each with what stands beside it.
-use Rattle.std.specs.Prelude.{ℕ, ◌==◌, nat_lt, Bool, true, false, List, [], ◌∷◌, map, filter, count_by, Option, None}
+use Rattle.std.specs.Prelude.{◌≡◌, ℕ, ◌+◌, ◌==◌, nat_lt, Bool, true, false, List, [], ◌∷◌, map, filter, count_by, Option, None}
 use Rattle.hx_base.specs.declared.numbers.ThreadNo.{ThreadNo}
 use Rattle.hx_base.specs.declared.what.What.{What}
 use Rattle.hx_pool.specs.declared.entries.Entry.{Entry}
@@ -54,6 +54,26 @@ is_open x = elim x.entry [ Open t n id ↦ true | _ ↦ false ]
 -- how many connections were opened
 abbrev pub opens_of : List Note → ℕ
 opens_of H = count_by is_open H
+
+abbrev pub is_take : Note → Bool
+is_take x = elim x.entry [ Take t n first place id uses ↦ true | _ ↦ false ]
+
+abbrev pub is_park : Note → Bool
+is_park x = elim x.entry [ Park t n id place uses ↦ true | _ ↦ false ]
+
+abbrev pub is_up : Note → Bool
+is_up x = elim x.entry [ Up t old ↦ true | _ ↦ false ]
+
+abbrev pub is_down : Note → Bool
+is_down x = elim x.entry [ Down t old ↦ true | _ ↦ false ]
+
+abbrev pub takes_of : List Note → ℕ
+takes_of es = count_by is_take es
+
+-- as much was added to the count of resting connections as came to rest: each Up has its Park or its Down, and each Take
+-- its Down
+abbrev pub IsEven : List Note → Type 0
+IsEven es = count_by is_up es + takes_of es ≡ count_by is_down es + count_by is_park es
 
 abbrev pub table_from : Table → List Note → Table
 table_from T [] = T

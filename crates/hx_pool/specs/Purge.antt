@@ -1,12 +1,12 @@
 -- Purge intervals, and how many resting connections are closed after each
 -- (HAProxy 2.4 Configuration Manual, section 5.2: pool-purge-delay).
-use Rattle.std.specs.Prelude.{◌≡◌, ◌≢◌, ℕ, ◌+◌, ◌-◌, ◌*◌, ◌/◌, ◌^◌, min, ◌<◌, ◌≤◌, ◌⊎◌, Bool, true, false, List, [], ◌∷◌, ◌++◌, count_by}
+use Rattle.std.specs.Prelude.{◌≡◌, ◌≢◌, ℕ, ◌+◌, ◌-◌, ◌*◌, ◌/◌, ◌^◌, min, ◌<◌, ◌≤◌, ◌⊎◌, false, List, [], ◌∷◌, ◌++◌}
 use Rattle.hx_base.specs.declared.numbers.Millis.{Millis}
 use Rattle.hx_base.specs.Shown.{Shown}
 use Rattle.hx_pool.specs.declared.budget.Quota.{Quota}
-use Rattle.hx_pool.specs.declared.entries.Entry.TheVariants.{Take, Round}
+use Rattle.hx_pool.specs.declared.entries.Entry.TheVariants.{Round}
 use Rattle.hx_pool.specs.declared.entries.Note.{Note}
-use Rattle.hx_pool.specs.History.{plain}
+use Rattle.hx_pool.specs.History.{plain, takes_of}
 use Rattle.hx_pool.specs.SeatView.{About, History, Calls}
 use Rattle.hx_pool.specs.Causes.{AllLooks, IsUnavailable, IsCovered, AllCovered, place_of, nth_place, caretaker}
 use Rattle.hx_pool.specs.Taking.{Takes}
@@ -76,12 +76,6 @@ pub record EndsPurge (old new : History) (q r : Quota) : Type 0 where
 -- purge_next with None: nothing is left to close, or every place was passed
 abbrev pub PurgesNone : History → History → Quota → Quota → Type 0
 PurgesNone old new q r = ((q.left ≡ 0) × (r ≡ q) × Calls old new []) ⊎ ((q.left ≢ 0) × EndsPurge old new q r)
-
-abbrev pub is_take : Note → Bool
-is_take x = elim x.entry [ Take t n first place id uses ↦ true | _ ↦ false ]
-
-abbrev pub takes_of : List Note → ℕ
-takes_of es = count_by is_take es
 
 -- es are the entries of the calls under the quota, which came of a count c after so many intervals
 pub record IsUnderQuota (a : About) (c intervals : ℕ) (q : Quota) (es : List Note) : Type 0 where

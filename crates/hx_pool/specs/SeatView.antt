@@ -9,7 +9,7 @@ use Rattle.hx_pool.specs.declared.board.BoardTerms.{BoardTerms}
 use Rattle.hx_pool.specs.declared.entries.Entry.{Entry}
 use Rattle.hx_pool.specs.declared.entries.Note.{Note}
 use Rattle.hx_pool.specs.declared.entries.LastMarks.{LastMarks}
-use Rattle.hx_pool.specs.History.{thread_of, own_of, marks_of, IsLegal}
+use Rattle.hx_pool.specs.History.{thread_of, own_of, marks_of, IsLegal, IsEven}
 use Rattle.hx_pool.specs.Rules.{KeepsMode, KeepsLimit}
 
 -- what no call changes; board is a name that the seats of one board alone share
@@ -57,6 +57,7 @@ pub record Makes (old new : History) (added : List Note) : Type 0 where
   pub seen : (between : List Note) × (new.seen ≡ old.seen ++ between)
   pub was : StandsInOneHistory old
   pub one : StandsInOneHistory new
+  pub even : IsEven added
 
 -- the same, and the seat's drain stands where it stood
 pub record Calls (old new : History) (added : List Note) : Type 0 where
@@ -67,10 +68,10 @@ pub record Calls (old new : History) (added : List Note) : Type 0 where
 abbrev pub last_list : LastMarks → List Entry
 last_list l = option_to_list l.first ++ option_to_list l.second
 
--- a call adds so many entries to mine, and its marks are told
+-- a call makes so many entries, and its marks are told
 pub record Grows (old new : History) (last : List Entry) : Type 0 where
   pub added : List Note
-  pub mine : new.mine ≡ old.mine ++ added
+  pub makes : Makes old new added
   pub marks : last ≡ marks_of added
   pub few : length added ≤ 4096
 

@@ -1,5 +1,5 @@
 -- The samples of a cut exchange and of an own answer are true, and what is wrong in one place is refused.
-use Rattle.std.proofs.Common.{◌≡◌, ℕ, false, List, [], ◌∷◌, ◌++◌, length, take, drop, Some, Ok, refl, sym, ap, ◌∙◌, subst, arith, lit≤, lit<, inl, inr, ⊎_elim, get_or, length-append, take-append-drop}
+use Rattle.std.proofs.Common.{◌≡◌, ℕ, false, List, [], ◌∷◌, ◌++◌, length, take, drop, Some, Ok, refl, sym, ap, ◌∙◌, subst, arith, lit≤, lit<, inl, inr, ⊎_elim, get_or, length-append, take-append-drop, append-nil}
 use Rattle.std.specs.Prelude.{codes}
 use Rattle.std.specs.Fmt.{digits}
 use Rattle.std.specs.Char.{is_ascii_digit}
@@ -14,7 +14,8 @@ use Rattle.hx_message.specs.declared.MethodKind.TheVariants.{Other}
 use Rattle.hx_message.specs.Fields.{connection_options, is_of_connection, is_kept, goes_on, staying}
 use Rattle.hx_message.specs.Forwarded.{IsInterim, BeginsInterims, ForwardsAnswer, forwarded_answer}
 use Rattle.hx_message.specs.Body.{kind_of_method, Framed, answer_kind, IsBody}
-use Rattle.hx_message.specs.Partial.{HasWholeAnswer, EndsAnswer}
+use Rattle.hx_message.specs.Partial.{HasWholeAnswer, HasShortAnswer, EndsAnswer, BeginsForwardedAnswer}
+use Rattle.hx_message.proofs.Unique.{prefix_begins}
 use Rattle.hx_message.specs.OwnAnswer.{HasReason, bad_request, timeout, too_large, not_implemented, bad_gateway, unavailable, gateway_timeout, version, own_text}
 use Rattle.hx_record.specs.declared.served.CutCause.TheVariants as cut
 use Rattle.hx_record.specs.declared.served.LeftCause.TheVariants as cause
@@ -87,6 +88,12 @@ never_whole k (le, (g, kind, is, told)) = not_with k g kind is.interims is.rest 
 
 -- ---- the cut exchange
 
+never_short : (k : ℕ) → HasShortAnswer Other part_answer k → ⊥
+never_short k s = never_whole k s.0
+
+part_begins : BeginsForwardedAnswer part_answer false part_answer
+part_begins = prefix_begins part_answer false part_answer part_answer part_goes_out ([], sym (append-nil part_answer))
+
 pub cut_true : RecountsLeft cause.Cut (cut_at 41 cut.Ended) part_asked part_carried
 cut_true = record {
   ranges = record { first = lit≤ tt; ask = (lit≤ tt, lit≤ tt); gave = (lit≤ tt, lit≤ tt); sent = (lit≤ tt, lit≤ tt); took = (lit≤ tt, lit≤ tt) };
@@ -96,8 +103,8 @@ cut_true = record {
   ask = inl (lit≤ tt, (Other, is_request));
   sent = (ask, ask_goes_out, ([], refl));
   all_sent = refl;
-  took = inr (never_whole, refl);
-  gave = (part_answer, part_goes_out, ([], refl));
+  took = inr (never_short, refl);
+  gave = part_begins;
   closing = λ e. absurd cc;
   early = λ e. absurd cc;
 }
@@ -107,7 +114,7 @@ cut_short r =
     let same = (request_unique ask r.head ask_head r.rest [] r.begins.reads asked.reads).0 in
     let method : kind_of_method r.head.method ≡ Other = ap (λ (g : RequestHead). kind_of_method g.method) same in
     let ends = subst (λ (m : MethodKind). EndsAnswer m part_answer 40) method r.took in
-    ⊎_elim (never_whole 40) (λ part. omega (arith, part.1)) ends
+    ⊎_elim (never_short 40) (λ part. omega (arith, part.1)) ends
 
 pub cut_early : ¬ RecountsLeft cause.Cut (cut_at 41 cut.Early) part_asked part_carried
 cut_early r = let e = (r.early refl).0 in absurd cc

@@ -179,14 +179,14 @@ second_true = whole_passed second (second_moved 2) (client_carriage two_asked fa
 
 pub one_client : TilesClient one_record one_asked
 one_client = record {
-  left = (told.Served first ∷ [], _, [], refl, refl, refl);
+  left = (told.Served first ∷ [], _, [], refl, refl, refl, refl);
   asks = (refl, lit≤ tt, (refl, lit≤ tt, refl));
   gaves = (refl, lit≤ tt, refl);
 }
 
 pub two_client : TilesClient two_records two_asked
 two_client = record {
-  left = (told.Served first ∷ told.Served second ∷ [], _, [], refl, refl, refl);
+  left = (told.Served first ∷ told.Served second ∷ [], _, [], refl, refl, refl, refl);
   asks = (refl, lit≤ tt, (refl, lit≤ tt, (refl, lit≤ tt, refl)));
   gaves = (refl, lit≤ tt, (refl, lit≤ tt, refl));
 }

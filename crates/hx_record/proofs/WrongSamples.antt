@@ -118,4 +118,4 @@ late_served (x ∷ y ∷ []) back l is none = cc
 late_served (x ∷ y ∷ z ∷ front) back l is none = omega (arith, ap length is, length-append front (told.Left l ∷ back))
 
 pub late_record : ¬ TilesClient told_after_end two_asked
-late_record t = late_served t.left.0 t.left.2 t.left.1 t.left.3 t.left.5
+late_record t = late_served t.left.0 t.left.2 t.left.1 t.left.3 t.left.6

@@ -30,11 +30,17 @@ abbrev pub gave_of : ThreadNo → SessionNo → Told → List Span
 gave_of t n (told.Served s) = if is_of t n s.worker s.session then s.gave ∷ [] else []
 gave_of t n (told.Left l) = []
 
--- the session's last line is a Left
+-- the ranges of the session's Lefts
+abbrev pub left_of : ThreadNo → SessionNo → Told → List Span
+left_of t n (told.Served s) = []
+left_of t n (told.Left l) = if is_of t n l.worker l.session then l.ask ∷ [] else []
+
+-- the session has one Left, and it is its last line
 abbrev pub EndsInLeft : ThreadNo → SessionNo → List Told → Type 0
 EndsInLeft t n records =
     (front : List Told) × (l : Left) × (back : List Told) × (records ≡ front ++ told.Left l ∷ back)
-    × (is_of t n l.worker l.session ≡ true) × (flat_map (ask_of t n) back ≡ [])
+    × (is_of t n l.worker l.session ≡ true)
+    × (flat_map (left_of t n) front ≡ []) × (flat_map (ask_of t n) back ≡ [])
 
 -- the session's ranges, with that of its Left last, follow each other from the first byte to the last
 pub record TilesClient (records : List Told) (client : ClientBytes) : Type 0 where

@@ -43,12 +43,12 @@ pub record HasFault (words : List (List ℕ)) (old new : SourceState) (line rule
 -- what isn't built yet: the other commands, and texts that are neither of these scripts, which were read without a fault
 abbrev pub IsUnbuilt : List (List ℕ) → SourceState → SourceState → Type 0
 IsUnbuilt words old new =
-    Means words Check ⊎ Means words Drill
+    Means words Check × (new ≡ old) ⊎ Means words Drill × (new ≡ old)
     ⊎ (Means words Replay × (new.faults ≡ old.faults) × IfSome old.left IsUnbuiltScript)
 
 -- the cause of each ending; want of memory alone has none
 abbrev pub HasCause : List (List ℕ) → SourceState → SourceState → Ending → Type 0
-HasCause words old new ending.Usage = NoCommand words
+HasCause words old new ending.Usage = NoCommand words × (new ≡ old)
 HasCause words old new ending.SourceFault = Means words Replay × Rose old.faults new.faults
 HasCause words old new ending.Unbuilt = IsUnbuilt words old new
 HasCause words old new (ending.Done text) = Replayed words old new text.items

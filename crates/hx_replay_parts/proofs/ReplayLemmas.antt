@@ -8,7 +8,7 @@ use Rattle.hx_conn.specs.Conns.{RestedNow}
 use Rattle.hx_link.specs.MemoryLinks.{MemoryLinkNow, KeepsPlan}
 use Rattle.hx_link.specs.Planned.{planned}
 use Rattle.hx_link.specs.declared.link_bytes.LinkBytes.{LinkBytes}
-use Rattle.hx_link.specs.declared.plan.Plan.{Plan}
+use Rattle.hx_base.specs.declared.plan.Plan.{Plan}
 use Rattle.hx_pool.specs.Journal.{Journal, journal_from}
 use Rattle.hx_pool.specs.SeatView.{About, History, StillKept}
 use Rattle.hx_pool.specs.declared.entries.Entry.{Entry}
@@ -42,7 +42,7 @@ not_used_again s x out link is came = (subst (CameOut s x) is came).2.0
 pub ends_over : (s : Plan) (x : Messages) (out : Outcome) (link : MemoryLinkNow) (h : History) → out ≡ Ends link → CameOut s x out
     → ((what : What) → IsOver h what false) → (what : What) × IsOver h what x.persists
 ends_over s x out link h is came over =
-    let what : What = record { faults = 0; tag = None; told = None } in
+    let what : What = record { faults = 0; tag = None; told = None; plan = None } in
     (what, subst (λ (b : Bool). IsOver h what b) (sym (not_used_again s x out link is came)) (over what))
 
 -- a link that follows its plan and took as many bytes as the plan has took all of them

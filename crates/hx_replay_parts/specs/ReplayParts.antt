@@ -3,7 +3,7 @@ use Rattle.std.specs.Prelude.{◌≡◌, Some}
 use Rattle.hx_base.specs.declared.rules.PoolRules.{PoolRules}
 use Rattle.hx_conn.specs.Conns.{RestedNow}
 use Rattle.hx_link.specs.Told.{LinkState}
-use Rattle.hx_link.specs.declared.plan.Plan.{Plan}
+use Rattle.hx_base.specs.declared.plan.Plan.{Plan}
 use Rattle.hx_pool.specs.SeatView.{StillKept}
 use Rattle.hx_pool.specs.Journal.{Journal, journal_from}
 use Rattle.hx_script.specs.declared.transcript.Transcript.{Transcript}

@@ -3,7 +3,7 @@ ghost use Rattle.std.specs.Prelude.{◌≡◌, ◌∷◌, [], IfOk};
 ghost use Rattle.hx_base.specs.declared.what.What.{What};
 ghost use Rattle.hx_pool.specs.Journal.{journal_from};
 ghost use Rattle.hx_pool.specs.SeatView.{StillKept};
-ghost use Rattle.hx_link.specs.declared.plan.Plan.{Plan};
+ghost use Rattle.hx_base.specs.declared.plan.Plan.{Plan};
 ghost use Rattle.hx_link.specs.MemoryNets.{IsPlan, new_net};
 ghost use Rattle.hx_form.specs.Messages.{Messages};
 ghost use Rattle.hx_exchange.specs.Exchanges.{TellsMessages};

@@ -3,7 +3,7 @@ ghost use Rattle.std.specs.Prelude.{◌≡◌, ℕ, List, IfOk, MatchOption};
 ghost use Rattle.hx_base.specs.declared.what.What.{What};
 ghost use Rattle.hx_pool.specs.Journal.{journal_from};
 ghost use Rattle.hx_conn.specs.Conns.{RestedNow};
-ghost use Rattle.hx_link.specs.declared.plan.Plan.{Plan};
+ghost use Rattle.hx_base.specs.declared.plan.Plan.{Plan};
 ghost use Rattle.hx_form.specs.Forms.{IsOneExchange};
 ghost use Rattle.hx_form.specs.Routes.{IsNamed};
 ghost use Rattle.hx_form.specs.Shapes.{HasShape};

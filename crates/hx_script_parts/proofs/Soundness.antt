@@ -20,7 +20,7 @@ use Rattle.hx_config.specs.Keywords.{found, or_else}
 use Rattle.hx_config.specs.declared.parts.Back.{Back}
 use Rattle.hx_config.specs.declared.parts.Front.{Front}
 use Rattle.hx_config.specs.declared.parts.Server.{Server}
-use Rattle.hx_link.specs.declared.plan.Plan.{Plan}
+use Rattle.hx_base.specs.declared.plan.Plan.{Plan}
 use Rattle.hx_script_parts.specs.declared.fault.Rule.{Rule}
 use Rattle.hx_script_parts.specs.declared.fault.Rule.TheVariants.{BadNumber, BadLine, BadWorker, WrongPlace, MomentFalls, TooMany, NoSuchFrontend, NoSuchServer}
 use Rattle.hx_script_parts.specs.declared.fault.Flaw.{Flaw}

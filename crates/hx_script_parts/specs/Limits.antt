@@ -7,7 +7,7 @@ use Rattle.hx_base.specs.declared.order.Order.{Order}
 use Rattle.hx_base.specs.declared.order.Order.TheVariants as order
 use Rattle.hx_config.specs.Limits.{all_servers}
 use Rattle.hx_config.specs.Meaning as config
-use Rattle.hx_link.specs.declared.plan.Plan.{Plan}
+use Rattle.hx_base.specs.declared.plan.Plan.{Plan}
 use Rattle.hx_script_parts.specs.declared.script.ClientLine.{ClientLine}
 
 -- a number that may be missing, or is at least 1

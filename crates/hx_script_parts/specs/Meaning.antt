@@ -5,7 +5,7 @@ use Rattle.hx_base.specs.declared.order.Order.{Order}
 use Rattle.hx_config.specs.Faults.{code_of}
 use Rattle.hx_config.specs.Meaning as config
 use Rattle.hx_config.specs.declared.fault.Flaw as config_fault
-use Rattle.hx_link.specs.declared.plan.Plan.{Plan}
+use Rattle.hx_base.specs.declared.plan.Plan.{Plan}
 use Rattle.hx_script_parts.specs.declared.fault.Rule.{Rule}
 use Rattle.hx_script_parts.specs.declared.fault.Rule.TheVariants.{BadFirstLine, BadLine, TooLong}
 use Rattle.hx_script_parts.specs.declared.fault.Flaw.{Flaw}

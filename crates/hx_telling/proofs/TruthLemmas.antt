@@ -92,7 +92,7 @@ true_passed x m = record {
 
 tiles_client : (x : Messages) → TilesClient (records_of x) (client_of x)
 tiles_client x = record {
-  left = (told.Served (served_of x) ∷ [], one_left x.ask x.closing, [], refl, refl, refl);
+  left = (told.Served (served_of x) ∷ [], one_left x.ask x.closing, [], refl, refl, refl, refl);
   asks = (refl, omega arith, (refl, omega arith, refl));
   gaves = (refl, omega arith, refl);
 }

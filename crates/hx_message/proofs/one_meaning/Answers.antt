@@ -1,4 +1,4 @@
-use Rattle.hx_message.proofs.Unique.{one_request, one_text, one_answer}
+use Rattle.hx_message.proofs.Unique.{one_request, one_text, one_answer, begins_prefix, prefix_begins}
 use Rattle.hx_message.proofs.one_meaning.Goals as goal
 
 pub returns-clause-request : goal.returns-clause-request
@@ -9,3 +9,9 @@ returns-clause-answer c = one_text
 
 pub returns-clause-head : goal.returns-clause-head
 returns-clause-head c = one_answer
+
+pub returns-clause-begins : goal.returns-clause-begins
+returns-clause-begins c = begins_prefix
+
+pub returns-clause-all : goal.returns-clause-all
+returns-clause-all c = prefix_begins

@@ -1,6 +1,6 @@
 use Rattle.std.proofs.Common.{arith, ◌≡◌, ◌≤◌, ◌<◌, length, get_or, List, sym, ◌∙◌, ap}
 use Rattle.std.proofs.lemmas.Bool.{ltb-false, ltb-true}
-use Rattle.hx_link.specs.declared.plan.Piece.{Piece}
+use Rattle.hx_base.specs.declared.plan.Piece.{Piece}
 use Rattle.hx_link.proofs.PlaceLemmas.{ready_past, left_none, ready_there, left_there, all_taken, has_end}
 use Rattle.hx_link.proofs.place.find_due.Goals as goal
 

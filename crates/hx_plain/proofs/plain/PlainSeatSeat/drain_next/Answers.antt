@@ -4,7 +4,7 @@ use Rattle.hx_pool.specs.Causes.{caretaker}
 use Rattle.hx_pool.specs.Totals.{totals_after}
 use Rattle.hx_plain.specs.PlainSeat.{about_alone, first_thread}
 use Rattle.hx_plain.specs.Row.{rests_of}
-use Rattle.hx_plain.proofs.Keeping.{one_board, entry_as}
+use Rattle.hx_plain.proofs.Keeping.{one_board, entry_as, grows_none}
 use Rattle.hx_plain.proofs.Sweeps.{drain_never, drain_done, drained}
 use Rattle.hx_plain.proofs.plain.PlainSeatSeat.drain_next.Goals as goal
 
@@ -72,3 +72,6 @@ returns-clause-grows g c =
     let e = entry_as c.take_entry-entry.result first_thread caretaker false rest.place (from + passed) c.face.result (shows rest.v).face (rw c.caretaker_of.ensures at c.take_entry-entry.ensures) h.swept.0 c.face.ensures in
     let t = drained (about_alone i.server i.rules i.start i.ledger.board) refl i.ledger i.next i.draining i.round (rests_of shows i.resting.items) s.stands (rests_of shows c.sweep.new.resting.items) from passed (shows rest.v) c.sweep.new.ledger h.swept.1 i.totals _ s (vec_capacity c.sweep.new.resting) (rw h.room s.roomy) in
     rw (← c.self.view_is, one_board i.ledger c.sweep.new.ledger _ h.swept.1.book, c.in-Some.is, c.one_mark-self-inside.ensures ∙ ap (λ x. x ∷ []) e) t.2
+
+pub returns-in_default-clause-grows : goal.returns-in_default-clause-grows
+returns-in_default-clause-grows g c = rw (← c.self.view_is) (grows_none _ _ _ c.self.inside.ledger.notes c.self.invariant.stands.one)

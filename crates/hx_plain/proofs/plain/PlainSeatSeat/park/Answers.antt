@@ -1,3 +1,4 @@
+use Rattle.hx_plain.proofs.Keeping.{grows_none}
 use Rattle.std.proofs.Common.{Bool, ◌≤◌, ◌∷◌, [], ◌∙◌, ap, subst, arith}
 use Rattle.std.specs.Vec.{vec_capacity}
 use Rattle.hx_base.specs.declared.numbers.Face.{Face}
@@ -108,3 +109,6 @@ returns-clause-grows g c =
     let most : (shows c.args.v).face.uses ≤ 65535 = subst (λ (f : Face). f.uses ≤ 65535) c.face-face.ensures (omega arith) in
     let t = put_all a i.ledger.notes i.next i.round rests s.stands c.args.n q (shows c.args.v) i.passed can most c.in_default.ensures.0 ad.first ad.limit i.totals (vec_capacity i.resting) s c.in_default.ensures.1 in
     rw (← c.self.view_is, book, c.one_mark-self-inside.ensures ∙ ap (λ (f : Face). Park first_thread c.args.n f.id (place_of 0 q) f.uses ∷ []) c.face-face.ensures) t.2
+
+pub returns-in-Some-clause-grows : goal.returns-in-Some-clause-grows
+returns-in-Some-clause-grows g c = rw (← c.self.view_is) (grows_none _ _ _ c.self.inside.ledger.notes c.self.invariant.stands.one)

@@ -7,7 +7,7 @@ use Rattle.hx_pool.proofs.Purges.{purge_goes, purge_stays}
 use Rattle.hx_plain.specs.PlainSeat.{about_alone, first_thread}
 use Rattle.hx_plain.specs.Row.{rests_of}
 use Rattle.hx_plain.specs.Plain.{alone}
-use Rattle.hx_plain.proofs.Keeping.{calls_none, one_board, entry_as}
+use Rattle.hx_plain.proofs.Keeping.{calls_none, grows_none, one_board, entry_as}
 use Rattle.hx_plain.proofs.Sweeps.{purge_done, purged}
 use Rattle.hx_plain.proofs.plain.PlainSeatSeat.purge_next.Goals as goal
 
@@ -110,3 +110,6 @@ returns-clause-grows g c =
     let t = purged (about_alone i.server i.rules i.start i.ledger.board) refl i.ledger i.next i.draining i.round (rests_of shows i.resting.items) s.stands (rests_of shows c.sweep.new.resting.items) q.seen c.in-Some.passed (shows rest.v) c.sweep.new.ledger h.swept.1 i.passed i.totals _ s (vec_capacity c.sweep.new.resting) (rw h.room s.roomy)
     q (record { left = q.left - 1; row = 0; place = to + 1; seen = to + 1 }) refl (omega (arith, c.if-quota-eq0.false)) refl refl refl in
     rw (← c.self.view_is, one_board i.ledger c.sweep.new.ledger _ h.swept.1.book, c.one_mark-self-inside.ensures ∙ ap (λ x. x ∷ []) e) t.2
+
+pub returns-then-quota-eq0-clause-grows : goal.returns-then-quota-eq0-clause-grows
+returns-then-quota-eq0-clause-grows g c = rw (← c.self.view_is) (grows_none _ _ _ c.self.inside.ledger.notes c.self.invariant.stands.one)

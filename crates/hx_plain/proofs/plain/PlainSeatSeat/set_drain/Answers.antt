@@ -1,8 +1,8 @@
-use Rattle.std.proofs.Common.{refl, true, sym, ◌∙◌}
+use Rattle.std.proofs.Common.{refl, true, sym, ◌∙◌, arith}
 use Rattle.hx_plain.specs.PlainSeat.{about_alone}
 use Rattle.hx_pool.proofs.Histories.{totals_more}
 use Rattle.hx_plain.proofs.Steps.{set_gate_stands, made}
-use Rattle.hx_plain.proofs.Keeping.{drains_anew}
+use Rattle.hx_plain.proofs.Keeping.{drains_anew, grows_by}
 use Rattle.hx_plain.proofs.plain.PlainSeatSeat.set_drain.Goals as goal
 
 pub invariant_of-self : goal.invariant_of-self
@@ -15,4 +15,10 @@ pub returns-clause-answer : goal.returns-clause-answer
 returns-clause-answer g c =
     let s = c.self.invariant.stands in
     let t = set_gate_stands _ _ _ _ s true in
-    rw (← c.self.view_is, c.write.ensures) (record { makes = made _ _ _ c.self.inside.ledger.notes _ s.one t.one; passed = refl })
+    rw (← c.self.view_is, c.write.ensures) (record { makes = made _ _ _ c.self.inside.ledger.notes _ s.one t.one refl; passed = refl })
+
+pub returns-clause-grows : goal.returns-clause-grows
+returns-clause-grows g c =
+    let s = c.self.invariant.stands in
+    let t = set_gate_stands _ _ _ _ s true in
+    rw (← c.self.view_is, c.write.ensures) (grows_by _ _ _ c.self.inside.ledger.notes _ _ s.one t.one refl c.one_mark-self-inside.ensures (omega arith))

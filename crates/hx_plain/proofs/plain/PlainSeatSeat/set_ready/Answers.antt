@@ -13,7 +13,10 @@ pub returns-clause-answer : goal.returns-clause-answer
 returns-clause-answer g c =
     let s = c.self.invariant.stands in
     let t = set_gate_stands _ _ _ _ s false in
-    rw (← c.self.view_is, c.write.ensures) (calls_by _ _ c.self.inside.ledger.notes _ s.one t.one)
+    rw (← c.self.view_is, c.write.ensures) (calls_by _ _ c.self.inside.ledger.notes _ s.one t.one refl)
 
 pub returns-clause-grows : goal.returns-clause-grows
-returns-clause-grows g c = rw (← c.self.view_is, c.write.ensures) (grows_by _ _ _ c.self.inside.ledger.notes _ _ c.one_mark-self-inside.ensures (omega arith))
+returns-clause-grows g c =
+    let s = c.self.invariant.stands in
+    let t = set_gate_stands _ _ _ _ s false in
+    rw (← c.self.view_is, c.write.ensures) (grows_by _ _ _ c.self.inside.ledger.notes _ _ s.one t.one refl c.one_mark-self-inside.ensures (omega arith))

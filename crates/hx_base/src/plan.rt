@@ -1,6 +1,7 @@
 //! What a link in memory gives and takes.
 
-use hx_base::{Bytes, Items, Millis, ServerNo};
+use crate::items::{Bytes, Items};
+use crate::numbers::{Millis, ServerNo};
 
 /// Bytes that are there once the moment has come, so many bytes were sent on the link, and the
 /// pieces before were taken.
