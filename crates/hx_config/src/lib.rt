@@ -24,6 +24,3 @@ pub use fault::ConfigFault;
 pub use hx_base::{Address, Host};
 pub use parts::{Back, Front, Server};
 pub use read::read_config;
-
-#[cfg(test)]
-mod tests;

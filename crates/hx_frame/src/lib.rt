@@ -20,6 +20,3 @@ pub use ends::one_end;
 pub use hx_message::{BodyKind, FrameFault, MethodKind};
 pub use meter::Meter;
 pub use progress::{Fed, MeterState};
-
-#[cfg(test)]
-mod tests;

@@ -11,8 +11,6 @@ mod named;
 mod refusal;
 mod request;
 mod staying;
-#[cfg(test)]
-mod tests;
 
 pub use again::heads_go_out_as_heads;
 pub use answer::read_answer;

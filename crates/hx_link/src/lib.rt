@@ -16,8 +16,6 @@ mod next_plan;
 mod pipe;
 mod place;
 mod source;
-#[cfg(test)]
-mod tests;
 mod whole;
 
 pub use adapters::{Reading, Writing};

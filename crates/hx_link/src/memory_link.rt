@@ -111,7 +111,7 @@ impl MemoryLink {
     }
 
     /// The script line of its plan.
-    pub(crate) fn tag(&self) -> u32
+    pub fn tag(&self) -> u32
         ensures { Some result ≡ self.now.state.tag }
     {
         self.plan.line

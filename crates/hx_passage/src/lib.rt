@@ -14,6 +14,3 @@ pub use halt::{Halt, Stop};
 pub use moves::{give_all, send_all, take_answer, take_more};
 pub use request::{Way, pass_ask};
 pub use whole::requests_go_out_whole;
-
-#[cfg(test)]
-mod tests;

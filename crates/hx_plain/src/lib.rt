@@ -11,7 +11,5 @@ mod rest;
 mod row;
 mod sweep;
 mod take;
-#[cfg(test)]
-mod tests;
 
 pub use plain::PlainSeat;

@@ -21,6 +21,3 @@ pub use lines::Lines;
 pub use quoted::{byte_text_at_front, one_byte_text, read_quoted};
 pub use read::read_script;
 pub use script::{ClientLine, Script};
-
-#[cfg(test)]
-mod tests;
