@@ -57,6 +57,7 @@ abbrev pub EndsBy : Standing → BodyKind → Finish → Type 0
 EndsBy now kind finish.Told = kind ≡ ToEnd → ⊥
 EndsBy now kind finish.LinkEnded = (kind ≡ ToEnd) × (now.busy.link.told_end ≡ true) × (now.from ≡ [])
 
+-- a whole answer was taken since the start, and all of the text that goes out for it was given
 pub record AnswerHasPassed (start now : Standing) (m : Manner) (g : ResponseHead) (kind : BodyKind) (how : Finish) : Type 0 where
   pub taken : List ℕ
   pub put : List ℕ

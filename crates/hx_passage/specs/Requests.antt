@@ -23,6 +23,7 @@ pub record Standing : Type 0 where
   pub from : List ℕ
   pub to : List ℕ
 
+-- the standing of these four
 abbrev pub standing : LinkState → BusyNow → List ℕ → List ℕ → Standing
 standing client busy from to = record { client = client; busy = busy; from = from; to = to }
 

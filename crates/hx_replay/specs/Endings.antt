@@ -14,6 +14,7 @@ use Rattle.hx_replay.specs.declared.ending.Ending.TheVariants as ending
 unfoldable pub usage_text : List ℕ
 usage_text = codes "usage: hx_replay replay | check | drill <start> <threads> <sessions>\n"
 
+-- the line for what isn't built yet
 abbrev pub unbuilt_text : List ℕ
 unbuilt_text = codes "unbuilt\n"
 
@@ -72,6 +73,7 @@ text_of (ending.Done text) = text.items
 text_of (ending.ConfigFault text) = text.items
 text_of ending.NoMemory = []
 
+-- the status of an ending
 abbrev pub status_of : Ending → ℕ
 status_of ending.Usage = 1
 status_of ending.SourceFault = 2
