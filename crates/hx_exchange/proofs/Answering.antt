@@ -6,7 +6,7 @@ use Rattle.hx_base.specs.declared.numbers.Millis.{Millis}
 use Rattle.hx_message.specs.declared.BodyKind.{BodyKind}
 use Rattle.hx_message.specs.declared.BodyKind.TheVariants.{ToEnd}
 use Rattle.hx_message.specs.Message.{IsAnswer, IsAnswerWith}
-use Rattle.hx_head.specs.Limits.{IsShortAnswer}
+use Rattle.hx_message.specs.Limits.{IsShortAnswer}
 use Rattle.hx_frame.specs.declared.meter.Meter.{Meter}
 use Rattle.hx_frame.specs.declared.progress.MeterState.{MeterState}
 use Rattle.hx_frame.specs.declared.progress.MeterState.TheVariants.{Going}

@@ -4,7 +4,7 @@ ghost use Rattle.std.specs.Prelude.{◌<◌};
 
 use crate::{
     BodyKind, FrameFault, Meter, MeterState, MethodKind, body_of_answer, body_of_request,
-    has_connection_field, one_end, persists, wants_close,
+    one_end, persists, wants_close,
 };
 use hx_head::{HeadRead, read_answer, read_request};
 use std::test::Fail;
@@ -213,7 +213,6 @@ fn persistence(rt: HostRuntime) -> Result<(), Fail> {
     let text = b"GET / HTTP/1.1\r\nHost: h\r\nConnection: te, close\r\n\r\n".as_slice();
     if let HeadRead::Whole(head) = read_request(text) {
         assert!(rt; wants_close(text, &head));
-        assert!(rt; has_connection_field(text, &head.fields[..head.count as usize]));
         one_end();
         return Ok(());
     }

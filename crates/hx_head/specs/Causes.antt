@@ -9,7 +9,7 @@ use Rattle.hx_head.specs.declared.head.HeadRead.{HeadRead}
 use Rattle.hx_head.specs.declared.head.HeadRead.TheVariants.{Whole, More, Refused}
 use Rattle.hx_head.specs.declared.refusal.Refusal.{Refusal}
 use Rattle.hx_head.specs.declared.refusal.Refusal.TheVariants.{NotAHead, TooLong, TooManyFields, Version, Status}
-use Rattle.hx_head.specs.Heads.{head_limit, field_limit}
+use Rattle.hx_message.specs.Limits.{head_limit, field_limit}
 use Rattle.hx_head.specs.Reads.{front}
 
 -- the number of a refusal

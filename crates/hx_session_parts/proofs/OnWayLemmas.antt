@@ -11,8 +11,8 @@ use Rattle.hx_message.specs.Forwarded.{IsInterim, BeginsInterims, ForwardsAnswer
 use Rattle.hx_message.specs.Message.{IsAnswerWith}
 use Rattle.hx_message.specs.Body.{IsBody}
 use Rattle.hx_head.specs.declared.head.AnswerHead.{AnswerHead}
-use Rattle.hx_head.specs.Heads.{head_limit, field_limit, IsAnswerAt}
-use Rattle.hx_head.specs.Limits.{IsShort, BeginsShortInterims, IsShortAnswer}
+use Rattle.hx_head.specs.Heads.{IsAnswerAt}
+use Rattle.hx_message.specs.Limits.{head_limit, field_limit, IsShort, BeginsShortInterims, IsShortAnswer}
 use Rattle.hx_frame.specs.declared.meter.Meter.{Meter}
 use Rattle.hx_frame.specs.declared.progress.MeterState.{MeterState}
 use Rattle.hx_frame.specs.Meters.{MeterFits}

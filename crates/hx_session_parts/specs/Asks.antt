@@ -10,7 +10,8 @@ use Rattle.hx_message.specs.Forwarded.{BeginsRequest, forwarded_request}
 use Rattle.hx_head.specs.declared.refusal.Refusal.{Refusal}
 use Rattle.hx_head.specs.declared.refusal.Refusal.TheVariants as refusal
 use Rattle.hx_head.specs.Causes.{HasOldRequest, RefusesRequest}
-use Rattle.hx_head.specs.Heads.{head_limit, IsRequestAt}
+use Rattle.hx_head.specs.Heads.{IsRequestAt}
+use Rattle.hx_message.specs.Limits.{head_limit}
 use Rattle.hx_head.specs.Reads.{front}
 use Rattle.hx_link.specs.Pipes.{PipeNow, pipe}
 use Rattle.hx_session_parts.specs.declared.asks.Asked.{Asked}
@@ -30,9 +31,9 @@ status_of TooLarge = 431
 status_of NotImplemented = 501
 status_of Version = 505
 
--- a head is at the front of the bytes
+-- a head within the limits is at the front of the bytes
 abbrev pub HasHead : List ℕ → RequestHead → Type 0
-HasHead bytes g = (rest : List ℕ) × BeginsRequest bytes g rest
+HasHead bytes g = (rest : List ℕ) × BeginsRequest bytes g rest × IsShort bytes rest (length g.fields)
 
 -- why the proxy answers a request itself
 abbrev pub RefusesAsk : AskFault → List ℕ → Type 0
@@ -47,7 +48,7 @@ RefusesAsk NotImplemented bytes =
     ⊎ ((kind : BodyKind) × (request_kind g ≡ Ok kind) × (kind_of_method g.method ≡ Connect)))
 RefusesAsk Version bytes = HasOldRequest (front bytes)
 
--- the fault of a head that was refused for the cause, and of one whose framing has the fault
+-- the fault of a head that was refused for the cause
 abbrev pub fault_of_cause : Refusal → AskFault
 fault_of_cause refusal.NotAHead = Bad
 fault_of_cause refusal.TooLong = TooLarge
@@ -55,6 +56,7 @@ fault_of_cause refusal.TooManyFields = TooLarge
 fault_of_cause refusal.Version = Version
 fault_of_cause refusal.Status = Bad
 
+-- the fault of a head whose framing has the fault
 abbrev pub fault_of_framing : FrameFault → AskFault
 fault_of_framing BothLengths = Bad
 fault_of_framing SeveralLengths = Bad
@@ -70,6 +72,7 @@ pub record IsAskOf (bytes : List ℕ) (a : Asked) (g : RequestHead) : Type 0 whe
   pub method : kind_of_method g.method ≡ Connect → ⊥
   pub close : a.wants_close ≡ wants_close g
 
+-- the ranges name some such head
 abbrev pub IsAsked : List ℕ → Asked → Type 0
 IsAsked bytes a = (g : RequestHead) × IsAskOf bytes a g
 

@@ -13,7 +13,7 @@ use Rattle.hx_message.proofs.Unique.{interim_final, one_answer}
 use Rattle.hx_head.specs.declared.refusal.Refusal.{Refusal}
 use Rattle.hx_head.specs.declared.refusal.Refusal.TheVariants.{NotAHead, TooLong, TooManyFields, Version, Status}
 use Rattle.hx_head.specs.Causes.{RefusesAnswer}
-use Rattle.hx_head.specs.Limits.{IsShortAnswer}
+use Rattle.hx_message.specs.Limits.{IsShortAnswer}
 use Rattle.hx_frame.specs.Meters.{IsProperPart, NoBodyBegins}
 use Rattle.hx_frame.proofs.EndLemmas.{one_body_end}
 use Rattle.hx_session_parts.specs.Answers.{BreaksAnswer}

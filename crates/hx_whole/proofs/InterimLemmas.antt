@@ -4,7 +4,7 @@ use Rattle.httparse.specs.Grammar.{ResponseHead, ReadsResponse, HasNoResponse}
 use Rattle.httparse.proofs.GrammarLemmas.{response_unique, ReadsResponse-append}
 use Rattle.hx_message.specs.Forwarded.{IsInterim, IsFinal, BeginsInterims}
 use Rattle.hx_message.proofs.Unique.{interim_final}
-use Rattle.hx_head.specs.Limits.{IsShort, BeginsShortInterims}
+use Rattle.hx_message.specs.Limits.{IsShort, BeginsShortInterims}
 
 -- bytes are the heads, the final head g, and then body
 pub record HasFinal (bytes : List ℕ) (g : ResponseHead) (body : List ℕ) : Type 0 where

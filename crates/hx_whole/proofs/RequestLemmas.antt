@@ -11,7 +11,7 @@ use Rattle.hx_message.specs.Body.{kind_of_method, request_kind, wants_close, IsB
 use Rattle.hx_message.specs.Forwarded.{BeginsRequest}
 use Rattle.hx_message.specs.Message.{IsRequest, WantsClose}
 use Rattle.hx_message.specs.Partial.{HasWholeRequest}
-use Rattle.hx_head.specs.Limits.{IsShortRequest}
+use Rattle.hx_message.specs.Limits.{IsShortRequest}
 use Rattle.hx_frame.specs.Meters.{IsProperPart, NoBodyBegins}
 use Rattle.hx_frame.proofs.EndLemmas.{one_request_end}
 use Rattle.hx_session_parts.specs.declared.fault.AskFault.{AskFault}

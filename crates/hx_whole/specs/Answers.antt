@@ -9,7 +9,7 @@ use Rattle.hx_message.specs.Forwarded.{IsFinal, BeginsInterims}
 use Rattle.hx_message.specs.Message.{IsAnswer, IsAnswerWith, Persists, RunsToEnd}
 use Rattle.hx_frame.specs.Meters.{IsProperPart, NoBodyBegins}
 use Rattle.hx_session_parts.specs.Answers.{BreaksAnswer}
-use Rattle.hx_head.specs.Limits.{IsShortAnswer}
+use Rattle.hx_message.specs.Limits.{IsShortAnswer}
 
 -- behind interim heads no front of it is broken
 abbrev pub AnswersAreFound : Type 0

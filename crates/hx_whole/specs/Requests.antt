@@ -9,7 +9,7 @@ use Rattle.hx_message.specs.Message.{IsRequest, WantsClose}
 use Rattle.hx_frame.specs.Meters.{IsProperPart, NoBodyBegins}
 use Rattle.hx_session_parts.specs.declared.fault.AskFault.{AskFault}
 use Rattle.hx_session_parts.specs.Asks.{RefusesAsk}
-use Rattle.hx_head.specs.Limits.{IsShortRequest}
+use Rattle.hx_message.specs.Limits.{IsShortRequest}
 
 -- no front of it is refused
 abbrev pub RequestsAreFound : Type 0
