@@ -3,8 +3,8 @@
 ghost use Rattle.std.specs.Prelude.{◌<◌};
 
 use crate::{
-    BodyKind, FrameFault, Meter, MeterState, MethodKind, body_of_answer, body_of_request,
-    one_end, persists, wants_close,
+    BodyKind, FrameFault, Meter, MeterState, MethodKind, body_of_answer, body_of_request, one_end,
+    persists, wants_close,
 };
 use hx_head::{HeadRead, read_answer, read_request};
 use std::test::Fail;
@@ -315,8 +315,10 @@ fn limits_of_lines(rt: HostRuntime) {
 fn lengths_and_the_end(rt: HostRuntime) {
     let mut meter = Meter::new(BodyKind::Length(3));
     assert_eq!(rt; meter.feed(b"ab").used, 2);
+    assert_eq!(rt; meter.state(), MeterState::Going);
     assert_eq!(rt; meter.feed(b"cd").used, 1);
     assert_eq!(rt; meter.feed(b"e").state, MeterState::Done);
+    assert_eq!(rt; meter.state(), MeterState::Done);
     assert!(rt; !meter.at_end());
     assert_eq!(rt;
         Meter::new(BodyKind::Nothing).feed(b"a").state,

@@ -10,7 +10,7 @@ use Rattle.hx_head.specs.declared.head.AnswerHead.{AnswerHead}
 use Rattle.hx_head.specs.declared.refusal.Refusal.{Refusal}
 use Rattle.hx_head.specs.Causes.{RefusesAnswer}
 use Rattle.hx_head.specs.Heads.{IsAnswerAt}
-use Rattle.hx_message.specs.Limits.{head_limit}
+use Rattle.hx_message.specs.Limits.{head_limit, IsShort}
 use Rattle.hx_link.specs.Pipes.{PipeNow, pipe}
 use Rattle.hx_session_parts.specs.declared.answers.Answered.{Answered}
 use Rattle.hx_session_parts.specs.declared.answers.AnswerLook.{AnswerLook}
@@ -62,3 +62,7 @@ abbrev pub AnswerHasNoRoom : List ℕ → PipeNow → AnswerHead → Bool → Ty
 AnswerHasNoRoom bytes to h closing =
     (g : ResponseHead) → IsAnswerAt bytes h g
     → to.capacity < length to.bytes + length (forwarded_answer g closing)
+
+-- nothing changed, since the text doesn't fit
+abbrev pub LeavesAnswer : PipeNow → PipeNow → PipeNow → PipeNow → AnswerHead → Bool → Type 0
+LeavesAnswer from from' to to' h closing = (from' ≡ from) × (to' ≡ to) × AnswerHasNoRoom from.bytes to h closing

@@ -1,5 +1,5 @@
 -- Requests at the front of a client's pipe, and their heads as they go out (RFC 9112, sections 2 to 6).
-use Rattle.std.specs.Prelude.{◌≡◌, ◌⊎◌, ℕ, ◌+◌, ◌<◌, ◌≤◌, List, ◌++◌, length, drop, Ok, Err}
+use Rattle.std.specs.Prelude.{◌≡◌, ◌⊎◌, ℕ, ◌+◌, ◌<◌, ◌≤◌, List, [], ◌++◌, length, drop, Ok, Err}
 use Rattle.httparse.specs.Grammar.{RequestHead, NeverHasRequest, HasNoRequest, MayBecomeRequest}
 use Rattle.hx_message.specs.declared.MethodKind.TheVariants.{Connect}
 use Rattle.hx_message.specs.declared.BodyKind.{BodyKind}
@@ -11,8 +11,10 @@ use Rattle.hx_head.specs.declared.refusal.Refusal.{Refusal}
 use Rattle.hx_head.specs.declared.refusal.Refusal.TheVariants as refusal
 use Rattle.hx_head.specs.Causes.{HasOldRequest, RefusesRequest}
 use Rattle.hx_head.specs.Heads.{IsRequestAt}
-use Rattle.hx_message.specs.Limits.{head_limit}
+use Rattle.hx_message.specs.Limits.{head_limit, IsShort}
 use Rattle.hx_head.specs.Reads.{front}
+use Rattle.hx_frame.specs.declared.meter.Meter.{Meter}
+use Rattle.hx_frame.specs.Meters.{HasUsed}
 use Rattle.hx_link.specs.Pipes.{PipeNow, pipe}
 use Rattle.hx_session_parts.specs.declared.asks.Asked.{Asked}
 use Rattle.hx_session_parts.specs.declared.asks.AskLook.{AskLook}
@@ -94,3 +96,11 @@ abbrev pub HasNoRoom : List ℕ → PipeNow → Asked → Type 0
 HasNoRoom bytes to a =
     (g : RequestHead) → IsRequestAt bytes a.head g
     → to.capacity < length to.bytes + length (forwarded_request g)
+
+-- the head went, and the meter stands at the front of the body
+abbrev pub SpellsAskWith : PipeNow → PipeNow → PipeNow → PipeNow → Asked → Meter → Type 0
+SpellsAskWith from from' to to' a meter = SpellsAsk from from' to to' a × HasUsed a.kind [] meter
+
+-- nothing changed, since the text doesn't fit
+abbrev pub LeavesAsk : PipeNow → PipeNow → PipeNow → PipeNow → Asked → Type 0
+LeavesAsk from from' to to' a = (from' ≡ from) × (to' ≡ to) × HasNoRoom from.bytes to a

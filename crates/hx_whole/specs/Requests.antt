@@ -14,8 +14,8 @@ use Rattle.hx_message.specs.Limits.{IsShortRequest}
 -- no front of it is refused
 abbrev pub RequestsAreFound : Type 0
 RequestsAreFound =
-    (bytes more : List ℕ) (m : MethodKind) (fault : AskFault) → IsRequest (bytes ++ more) m → IsShortRequest (bytes ++ more)
-    → RefusesAsk fault bytes → ⊥
+    (bytes more : List ℕ) (m : MethodKind) (fault : AskFault) → IsRequest (bytes ++ more) m
+    → IsShortRequest (bytes ++ more) → RefusesAsk fault bytes → ⊥
 
 -- all of it has a head
 abbrev pub RequestsHaveHeads : Type 0
