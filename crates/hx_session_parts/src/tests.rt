@@ -1,7 +1,5 @@
 //! Heads that are looked at and spelled anew, and bodies that pass, through pipes.
-use crate::{
-    AnswerLook, AskLook, look_answer, look_ask, pass_body, spell_answer, spell_ask,
-};
+use crate::{AnswerLook, AskLook, look_answer, look_ask, pass_body, spell_answer, spell_ask};
 use hx_frame::{Meter, MeterState};
 use hx_link::Pipe;
 use hx_message::{BodyKind, MethodKind};

@@ -1,8 +1,11 @@
 use Rattle.std.proofs.Common.{◌∙◌, sym, subst}
 use Rattle.hx_session_parts.specs.declared.fault.AskFault.{AskFault}
 use Rattle.hx_session_parts.specs.Asks.{RefusesAsk}
-use Rattle.hx_session_parts.proofs.LookLemmas.{refuses_frame, refuses_connect}
+use Rattle.hx_session_parts.proofs.LookLemmas.{refuses_head, refuses_frame, refuses_connect}
 use Rattle.hx_session_parts.proofs.asks.look_ask.Goals as goal
+
+pub returns-in-Refused : goal.returns-in-Refused
+returns-in-Refused c = refuses_head c.args.bytes.now c.in-Refused.why c.fault_of_head.result c.in-Refused.ensures.cause c.fault_of_head.ensures
 
 pub returns-in-Err : goal.returns-in-Err
 returns-in-Err c =
