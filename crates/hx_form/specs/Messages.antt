@@ -3,7 +3,7 @@ use Rattle.std.specs.Prelude.{◌≡◌, ◌⊎◌, ◌↔◌, ℕ, Bool, true, 
 use Rattle.hx_message.specs.declared.MethodKind.{MethodKind}
 use Rattle.hx_message.specs.Forwarded.{ForwardsRequest, ForwardsAnswer}
 use Rattle.hx_message.specs.Message.{IsRequest, IsAnswer, WantsClose, RunsToEnd, Persists}
-use Rattle.hx_head.specs.Limits.{IsShortRequest, IsShortAnswer}
+use Rattle.hx_message.specs.Limits.{IsShortRequest, IsShortAnswer}
 
 -- a request and its answer, with the texts that go out for them and what they tell of their connections
 pub record Messages : Type 0 where

@@ -4,4 +4,5 @@ pub mod FieldLemmas
 pub mod HeadLemmas
 pub mod KeptLemmas
 pub mod StayingLemmas
+pub mod OptionLemmas
 pub mod WriteLemmas

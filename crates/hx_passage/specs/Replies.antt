@@ -10,7 +10,7 @@ use Rattle.hx_frame.specs.declared.meter.Meter.{Meter}
 use Rattle.hx_frame.specs.declared.progress.MeterState.TheVariants.{Going, Bad}
 use Rattle.hx_frame.specs.Meters.{state_of}
 use Rattle.hx_link.specs.Told.{LinkState}
-use Rattle.hx_head.specs.Limits.{IsShortAnswer}
+use Rattle.hx_message.specs.Limits.{IsShortAnswer}
 use Rattle.hx_session_parts.specs.OnWay.{AreInterimsOnWay, IsAnswerOnWay}
 use Rattle.hx_passage.specs.declared.halt.Halt.{Halt}
 use Rattle.hx_passage.specs.declared.halt.Halt.TheVariants.{Ended}

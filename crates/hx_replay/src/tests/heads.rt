@@ -108,6 +108,9 @@ fn the_limits_are_met_to_the_byte(rt: HostRuntime) -> Result<(), Fail> {
     assert_eq!(rt; told(read_request(longest.as_slice())), "whole");
     let longer = repeated(alloc, front, b"a", 16_358, back)?;
     assert_eq!(rt; told(read_request(longer.as_slice())), "too long");
+    let no_head = repeated(alloc, b"\x01", b"a", 16_384, b"")?;
+    assert_eq!(rt; told(read_request(no_head.as_slice())), "not a head");
+    assert_eq!(rt; told(read_answer(no_head.as_slice())), "not a head");
     let front = b"GET / HTTP/1.1\r\n";
     let most = repeated(alloc, front, b"A: b\r\n", 100, b"\r\n")?;
     assert_eq!(rt; told(read_request(most.as_slice())), "whole");

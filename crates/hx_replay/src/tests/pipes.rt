@@ -1,7 +1,5 @@
 //! Heads that are looked at and spelled anew, and bodies that pass, through pipes.
-use hx_session_parts::{
-    AnswerLook, AskFault, AskLook, look_answer, look_ask, pass_body, spell_answer, spell_ask,
-};
+use hx_session_parts::{AnswerLook, AskLook, look_answer, look_ask, pass_body, spell_answer, spell_ask};
 use hx_frame::{Meter, MeterState};
 use hx_link::Pipe;
 use hx_message::{BodyKind, MethodKind};
@@ -44,8 +42,10 @@ fn requests_that_the_proxy_answers_itself(rt: HostRuntime) {
     for (bytes, status) in cases {
         assert_eq!(rt; fault_of(bytes), status);
     }
-    let long = [b'a'; 16_384];
-    assert_eq!(rt; fault_of(&long), Some(AskFault::TooLarge.status()));
+    let mut long = [b'a'; 16_384];
+    assert_eq!(rt; fault_of(&long), Some(431));
+    long[0] = 1;
+    assert_eq!(rt; fault_of(&long), Some(400));
 }
 
 #[derive(Clone, Copy, Debug, PartialEq, Eq)]

@@ -1,6 +1,6 @@
 use Rattle.std.proofs.Common.{◌≡◌, length}
 use Rattle.httparse.specs.Grammar.{skip_ows}
-use Rattle.hx_head.proofs.named.trim_start.Given as goal
+use Rattle.hx_head.proofs.options.trim_start.Given as goal
 
 abbrev pub invariant-loop-bytes : goal.invariant-loop-bytes
 invariant-loop-bytes l = skip_ows l.bytes ≡ skip_ows l.fn.bytes
