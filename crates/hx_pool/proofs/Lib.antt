@@ -18,3 +18,8 @@ pub mod Emptied
 pub mod WantSamples
 pub mod Storing
 pub mod CountsRest
+pub mod JustCalls
+pub mod Caretaking
+pub mod WhatStays
+pub mod Wanting
+pub mod DrainSamples

@@ -1,4 +1,5 @@
-use Rattle.hx_plain.proofs.Calling.{fresh_stands, purge_stands}
+use Rattle.hx_pool.proofs.Caretaking.{fresh_stands}
+use Rattle.hx_plain.proofs.Calling.{purge_stands}
 use Rattle.hx_plain.proofs.tests.bench.purged.Goals as goal
 
 pub loop-gone-init : goal.loop-gone-init
