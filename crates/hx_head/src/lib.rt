@@ -1,7 +1,6 @@
 //! Heads of messages: read with the crate httparse within fixed limits, and spelled anew as they go out.
 #![tactic(auto)]
 
-mod again;
 mod answer;
 mod copy;
 mod forward;
@@ -14,7 +13,6 @@ mod staying;
 #[cfg(test)]
 mod tests;
 
-pub use again::heads_go_out_as_heads;
 pub use answer::read_answer;
 pub use forward::{NoRoom, forward_answer, forward_request};
 pub use head::{AnswerHead, FieldSpan, HeadRead, RequestHead};

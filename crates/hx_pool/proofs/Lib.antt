@@ -23,3 +23,4 @@ pub mod Caretaking
 pub mod WhatStays
 pub mod Wanting
 pub mod DrainSamples
+pub mod RefusedSamples
