@@ -24,3 +24,4 @@ pub mod WhatStays
 pub mod Wanting
 pub mod DrainSamples
 pub mod RefusedSamples
+pub mod OpenedOnce

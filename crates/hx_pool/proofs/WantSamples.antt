@@ -1,23 +1,27 @@
--- What sessions hold, and when they may open, tried on small histories.
-use Rattle.std.proofs.Common.{◌≡◌, ◌≢◌, ℕ, true, false, List, [], ◌∷◌, ◌++◌, length, refl, ap, subst, arith, lit<, inl, inr, Some, None, length-append}
+-- What sessions hold, take, open and close, tried on small histories.
+use Rattle.std.proofs.Common.{◌≡◌, ◌≢◌, ◌⊎◌, ℕ, ◌≤◌, true, false, List, [], ◌∷◌, ◌++◌, length, refl, sym, ap, ◌∙◌, subst, ⊎_elim, arith, lit≤, lit<, inl, inr, Some, None, length-append}
+use mathlib.Core.Logic.{dite}
+use native.Mathlib.Decide.{ℕ_discrete}
 use Rattle.hx_base.specs.declared.numbers.ThreadNo.{ThreadNo}
 use Rattle.hx_base.specs.declared.numbers.SessionNo.{SessionNo}
 use Rattle.hx_base.specs.declared.numbers.ConnId.{ConnId}
 use Rattle.hx_base.specs.declared.numbers.PlaceNo.{PlaceNo}
+use Rattle.hx_base.specs.declared.numbers.Face.{Face}
 use Rattle.hx_base.specs.declared.rules.Mode.{Mode}
-use Rattle.hx_base.specs.declared.rules.Mode.TheVariants.{Aggressive, Always}
+use Rattle.hx_base.specs.declared.rules.Mode.TheVariants.{Never, Aggressive, Always}
 use Rattle.atomic_table.specs.Seated.{TableId}
 use Rattle.hx_pool.specs.declared.entries.Entry.TheVariants.{Open, Park, Take, Close, Count, Gate, SetGate}
 use Rattle.hx_pool.specs.declared.entries.Note.{Note}
-use Rattle.hx_pool.specs.Table.{face_of}
-use Rattle.hx_pool.specs.History.{plain, entries_of}
-use Rattle.hx_pool.specs.Held.{held_by}
+use Rattle.hx_pool.specs.Table.{Table, Spot, Vacant, Holds, put, face_of, spot_no, spot_at}
+use Rattle.hx_pool.specs.History.{plain, entries_of, table_after}
+use Rattle.hx_pool.specs.Held.{held_by, HasJust}
 use Rattle.hx_pool.specs.Drain.{since_drain}
-use Rattle.hx_pool.specs.Causes.{Among}
-use Rattle.hx_pool.specs.Taking.{last_park, NoneRestsIn, IsBest}
+use Rattle.hx_pool.specs.Causes.{Among, place_of}
+use Rattle.hx_pool.specs.Taking.{NoneRestsIn, is_safe, is_preferred, last_park, IsBest}
 use Rattle.hx_pool.specs.Totals.{totals_of}
 use Rattle.hx_pool.specs.SeatView.{About, History}
 use Rattle.hx_pool.specs.Wants.{OpensForWant, ClosesForCause}
+use Rattle.hx_pool.proofs.Tables.{put_same, put_other}
 
 abbrev by : ℕ → ThreadNo
 by t = record { 0 = t }
@@ -140,3 +144,33 @@ safe_rests = opens 1 1 ∷ opens 2 2 ∷ parks 1 1 0 2 ∷ parks 2 2 1 1 ∷ []
 safe_not_best : (b : TableId) → ¬ IsBest (history Always 0 b safe_rests) safe_rests false (face_of (id 1) 2)
 safe_not_best b best =
     let no = (best 1 (face_of (id 2) 1) (lit< tt) refl refl).0 in cc
+
+-- what rests in the row of two_rest
+rest_there : (p : ℕ) (f : Face) → spot_at (table_after two_rest) (place_of 0 p) ≡ Holds f → (f ≡ face_of (id 1) 1) ⊎ (f ≡ face_of (id 2) 1)
+rest_there p f rests =
+    let before : Table = table_after (opens 1 1 ∷ opens 2 2 ∷ parks 1 1 0 1 ∷ []) in
+    let none : ℕ → Spot = λ j. Vacant in
+    let q = spot_no (place_of 0 p) in
+    dite (ℕ_discrete q 1)
+    (λ e. let is : Holds (face_of (id 2) 1) ≡ Holds f = sym (put_same before.spots 1 (Holds (face_of (id 2) 1)) q e) ∙ rests in inr (cc))
+    (λ ne. let was : put none 0 (Holds (face_of (id 1) 1)) q ≡ Holds f = sym (put_other before.spots 1 (Holds (face_of (id 2) 1)) q ne) ∙ rests in
+    dite (ℕ_discrete q 0)
+    (λ e. let is : Holds (face_of (id 1) 1) ≡ Holds f = sym (put_same none 0 (Holds (face_of (id 1) 1)) q e) ∙ was in inl (cc))
+    (λ other. let is : Vacant ≡ Holds f = sym (put_other none 0 (Holds (face_of (id 1) 1)) q other) ∙ was in absurd (cc)))
+
+later_is_best : (b : TableId) → IsBest (history Always 0 b two_rest) two_rest false (face_of (id 2) 1)
+later_is_best b p f low rests may = ⊎_elim
+    (λ (e : f ≡ face_of (id 1) 1). subst (λ (g : Face). (is_preferred false g.uses 1 ≡ false) × (is_safe g.uses ≡ is_safe 1 → last_park two_rest g.id.0 ≤ 4)) (sym e) (refl, λ same. lit≤ tt))
+    (λ (e : f ≡ face_of (id 2) 1). subst (λ (g : Face). (is_preferred false g.uses 1 ≡ false) × (is_safe g.uses ≡ is_safe 1 → last_park two_rest g.id.0 ≤ 4)) (sym e) (refl, λ same. lit≤ tt))
+    (rest_there p f rests)
+
+-- under never a session holds its connection however often it was used; where connections are shared, as often as it says
+just_unshared : (b : TableId) → HasJust (history Never 0 b (opens 1 1 ∷ [])) (session 1) (Some (face_of (id 1) 7))
+just_unshared b = (0, refl, λ shared. absurd (shared refl))
+
+just_shared : (b : TableId) → ¬ HasJust (history Always 0 b (opens 1 1 ∷ [])) (session 1) (Some (face_of (id 1) 7))
+just_shared b j =
+    let is = j.1 in
+    let same : face_of (id 1) 0 ≡ face_of (id 1) j.0 = cc in
+    let none : 0 ≡ j.0 = ap (λ (f : Face). f.uses) same in
+    let used : j.0 ≡ 7 = j.2 (λ e. cc) in omega arith
