@@ -1,4 +1,3 @@
-pub mod Again
 pub mod Heads
 pub mod Reads
 pub mod Causes

@@ -1,7 +1,6 @@
 //! Heads of messages: read with the crate httparse within fixed limits, and spelled anew as they go out.
 #![tactic(auto)]
 
-mod again;
 mod answer;
 mod copy;
 mod forward;
@@ -13,7 +12,6 @@ mod refusal;
 mod request;
 mod staying;
 
-pub use again::heads_go_out_as_heads;
 pub use answer::read_answer;
 pub use copy::part;
 pub use forward::{NoRoom, forward_answer, forward_request};

@@ -115,6 +115,7 @@ impl<V: Faced> HasHistory for PlainSeat<V> {
 
 impl<V: Faced> Seat<V> for PlainSeat<V> {
     fn thread(&self) -> ThreadNo {
+        // A look at a field brings in what the type keeps: that the seat stands in one history.
         let _next = &self.next;
         ME
     }
@@ -296,6 +297,8 @@ impl<V: Faced> Seat<V> for PlainSeat<V> {
     }
 
     fn tell(&mut self, other: &mut Self) {
+        // What the type keeps of each seat, brought in by a look at a field: both have the thread ME, so that no two of
+        // them are seats of one board, and the call has no caller.
         let _mine = &self.next;
         let _theirs = &other.next;
         unreachable!()

@@ -1,12 +1,14 @@
 -- What sessions hold, by their thread's own entries.
-use Rattle.std.specs.Prelude.{◌≡◌, ℕ, ◌==◌, cond, List, [], ◌∷◌, ◌++◌, Option, Some, None, MatchOption}
+use Rattle.std.specs.Prelude.{◌≡◌, ◌≢◌, ℕ, ◌==◌, cond, List, [], ◌∷◌, ◌++◌, Option, Some, None, MatchOption}
 use Rattle.hx_base.specs.declared.numbers.SessionNo.{SessionNo}
 use Rattle.hx_base.specs.declared.numbers.ConnId.{ConnId}
 use Rattle.hx_base.specs.declared.numbers.Face.{Face}
+use Rattle.hx_base.specs.declared.rules.Mode.TheVariants.{Never}
 use Rattle.hx_pool.specs.declared.entries.Entry.{Entry}
 use Rattle.hx_pool.specs.declared.entries.Entry.TheVariants.{Open, Park, Take, Close}
 use Rattle.hx_pool.specs.declared.entries.Note.{Note}
 use Rattle.hx_pool.specs.Table.{face_of}
+use Rattle.hx_pool.specs.SeatView.{History}
 
 -- a session has a connection that was used so often
 pub record Hold : Type 0 where
@@ -58,3 +60,33 @@ held_by mine n = held_from n [] mine
 -- the session has just this connection, or none
 abbrev pub HoldsJust : List Note → SessionNo → Option Face → Type 0
 HoldsJust mine n o = MatchOption o (held_by mine n ≡ []) (λ f. held_by mine n ≡ f ∷ [])
+
+-- the seat holds for the session just the connection with this face, or none; where the mode never shares, a session may
+-- use its connection again without a Park, and the entries don't say how often it was used
+abbrev pub HasJust : History → SessionNo → Option Face → Type 0
+HasJust h n None = held_by h.mine n ≡ []
+HasJust h n (Some f) =
+    (uses : ℕ) × (held_by h.mine n ≡ face_of f.id uses ∷ []) × (h.about.rules.mode ≢ Never → uses ≡ f.uses)
+
+-- the entry opens, parks, takes or closes nothing for the session
+abbrev pub IsApart : SessionNo → Entry → Type 0
+IsApart n (Open t m id) = m.0 ≢ n.0
+IsApart n (Park t m id place uses) = m.0 ≢ n.0
+IsApart n (Take t m first place id uses) = m.0 ≢ n.0
+IsApart n (Close t m id) = m.0 ≢ n.0
+IsApart n _ = Unit {0}
+
+-- each of the entries is such
+abbrev pub AllApart : SessionNo → List Note → Type 0
+AllApart n [] = Unit {0}
+AllApart n (x ∷ xs) = IsApart n x.entry × AllApart n xs
+
+-- the entry parks another connection, or none
+abbrev pub ParksOther : ConnId → Entry → Type 0
+ParksOther id (Park t n parked place uses) = parked.0 ≢ id.0
+ParksOther id _ = Unit {0}
+
+-- each of the entries is such
+abbrev pub AllParkOther : ConnId → List Note → Type 0
+AllParkOther id [] = Unit {0}
+AllParkOther id (x ∷ xs) = ParksOther id x.entry × AllParkOther id xs

@@ -118,3 +118,14 @@ gap_in_sent =
 -- the second request is told after the session's end
 abbrev pub told_after_end : List Told
 told_after_end = told.Served first ∷ left (range 28 28) ∷ told.Served second ∷ []
+
+-- the session's first record says that it is the second, or its second that it is the third
+abbrev pub begins_at_two : List Told
+begins_at_two = told.Served (record first { number = 2 }) ∷ left (range 28 28) ∷ []
+
+abbrev pub leaves_out_two : List Told
+leaves_out_two = told.Served first ∷ told.Served (record second { number = 3 }) ∷ left (range 56 56) ∷ []
+
+-- the first record alone, before its session goes on
+abbrev pub first_line : List Told
+first_line = told.Served first ∷ []

@@ -43,17 +43,6 @@ pub drain_about : {V : Type 0} (shows : V → Shown) (old new : History) (o : Op
 drain_about shows old new None h = h.looks.makes.about
 drain_about shows old new (Some v) h = h.takes.makes.about
 
--- a new quota names the own row's first place
-pub fresh_stands : (old new : History) (now : Millis) (q : Quota) → GivesQuota old new now q → StandsAt new.about q
-fresh_stands old new now q h =
-    let m = h.makes.makes in
-    let a = new.about in
-    let zero-on : a.thread.0 + 0 ≡ a.thread.0 = omega arith in
-    let row : (a.thread.0 + 0) % a.threads ≡ a.thread.0 = ap (λ (x : ℕ). x % a.threads) zero-on ∙ mod-eq_of_lt m.one.inside.0 in
-    let P : About → Type 0 = λ b. let r : Quota = record { left = quota_of h.c (round_at old.about now - h.was); row = b.thread.0; place = 0; seen = 0 } in StandsAt a r in
-    let base : P a = record { inside = omega arith; at = λ _. ap (λ (x : ℕ). place_of x 0) (sym row) } in
-    subst (λ (r : Quota). StandsAt a r) (sym h.answer) (subst P m.about base)
-
 ended : (old new : History) (q r : Quota) → EndsPurge old new q r → StandsAt new.about r
 ended old new q r e = subst (λ (a : About). StandsAt a r) (sym e.makes.makes.about) (let s = e.seen in record { inside = omega arith; at = λ h. absurd (omega arith) })
 

@@ -95,6 +95,7 @@ tiles_client x = record {
   left = (told.Served (served_of x) ∷ [], one_left x.ask x.closing, [], refl, refl, refl, refl);
   asks = (refl, omega arith, (refl, omega arith, refl));
   gaves = (refl, omega arith, refl);
+  numbers = (refl, tt);
 }
 
 holds_one : {A : Type 0} (a : A) → Contains (a ∷ []) a

@@ -1,4 +1,5 @@
-use Rattle.hx_replay.proofs.SeatCalls.{fresh_stands, purge_stands}
+use Rattle.hx_pool.proofs.Caretaking.{fresh_stands}
+use Rattle.hx_replay.proofs.SeatCalls.{purge_stands}
 use Rattle.hx_replay.proofs.tests.seats.bench.purged.Goals as goal
 
 pub loop-gone-init : goal.loop-gone-init

@@ -12,9 +12,9 @@ use Rattle.httparse.specs.Grammar.{is_token_byte, is_value_byte, trim_ows, Field
 use Rattle.hx_message.specs.Fields.{NameAndValue, read_fields, is_named, values_of, parts_of, connection_options, is_of_connection, is_optional, goes_on, staying}
 use Rattle.hx_message.specs.Body.{request_kind, with_host, field_kind}
 use Rattle.hx_message.specs.Forwarded.{field_line, closing_line, forwarded_request, forwarded_answer}
-use Rattle.hx_head.specs.Again.{IsForwardedRequest, IsForwardedAnswer, closing_fields, KeepsNoClose}
-use Rattle.hx_head.proofs.FieldLemmas.{Fits, all_fit, to_field, are_fields, lines_again, read_again}
-use Rattle.hx_head.proofs.KeptLemmas.{filter_none, filter_whole, not_named, goes_without, staying_not_connection, staying_twice, by_values, kind_stays}
+use Rattle.hx_message.specs.Again.{IsForwardedRequest, IsForwardedAnswer, closing_fields, KeepsNoClose}
+use Rattle.hx_message.proofs.FieldLemmas.{Fits, all_fit, to_field, are_fields, lines_again, read_again}
+use Rattle.hx_message.proofs.KeptLemmas.{filter_none, filter_whole, not_named, goes_without, staying_not_connection, staying_twice, by_values, kind_stays}
 
 -- ---- requests
 
@@ -107,7 +107,7 @@ answer_text_again g closing =
     ∙ sym (flat_map-append field_line stays (closing_fields closing)) ∙ sym (lines_again (stays ++ closing_fields closing)) in
     regroup_lines front (flat_map field_line stays) (closing_line closing) crlf_bytes ∙ ap (λ (text : List ℕ). front ++ (text ++ crlf_bytes)) lines
 
-abbrev the_close : NameAndValue
+abbrev pub the_close : NameAndValue
 the_close = (codes "Connection", codes "close")
 
 close_values : (fields : List NameAndValue) → All (λ f. is_of_connection f.0 ≡ false) fields → values_of (codes "Connection") (fields ++ the_close ∷ []) ≡ codes "close" ∷ []

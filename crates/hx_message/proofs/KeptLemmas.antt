@@ -102,7 +102,7 @@ staying_twice fields = stay_all (staying fields) (staying_not_connection fields)
 -- ---- the kind of body stays
 
 -- a name that is that of a framing field, letter case ignored, goes on
-abbrev IsFramingName : List ℕ → Type 0
+abbrev pub IsFramingName : List ℕ → Type 0
 IsFramingName name = (f : NameAndValue) → is_named name f ≡ true → (is_of_connection f.0 ≡ false) × (is_kept f.0 ≡ true)
 
 lower_is : (name other : List ℕ) → str_eq_ignore_ascii_case name other ≡ true → str_to_ascii_lowercase name ≡ str_to_ascii_lowercase other
@@ -122,11 +122,11 @@ host_is_framing : IsFramingName (codes "Host")
 unfolding is_of_connection is_kept
 host_is_framing = framing_by_lower (codes "Host") refl refl
 
-length_is_framing : IsFramingName (codes "Content-Length")
+pub length_is_framing : IsFramingName (codes "Content-Length")
 unfolding is_of_connection is_kept
 length_is_framing = framing_by_lower (codes "Content-Length") refl refl
 
-coding_is_framing : IsFramingName (codes "Transfer-Encoding")
+pub coding_is_framing : IsFramingName (codes "Transfer-Encoding")
 unfolding is_of_connection is_kept
 coding_is_framing = framing_by_lower (codes "Transfer-Encoding") refl refl
 
@@ -134,7 +134,7 @@ goes_kept : (fields : List NameAndValue) (f : NameAndValue) → (is_of_connectio
 unfolding goes_on
 goes_kept fields f is = rw (is.0, is.1) refl
 
-values_stay : (name : List ℕ) (fields : List NameAndValue) → IsFramingName name → values_of name (staying fields) ≡ values_of name fields
+pub values_stay : (name : List ℕ) (fields : List NameAndValue) → IsFramingName name → values_of name (staying fields) ≡ values_of name fields
 unfolding staying
 values_stay name fields framing =
     ap (map (λ (f : NameAndValue). f.1))
