@@ -1,4 +1,4 @@
-use Rattle.std.proofs.Common.{ℕ, List, suc, ◌||◌, Bool, take, drop, sym, ap, ◌∙◌, rules, add-one}
+use Rattle.std.proofs.Common.{suc, ◌||◌, Bool, drop, sym, ap, ◌∙◌, rules, add-one}
 use Rattle.std.specs.Str.{str_eq_ignore_ascii_case}
 use Rattle.std.proofs.lemmas.List.{take_rest}
 use Rattle.hx_head.specs.Options.{lists_option}
