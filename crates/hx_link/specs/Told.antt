@@ -32,7 +32,12 @@ pub record LinkState : Type 0 where
   -- these bytes, where it tells them
   pub taken : Option (List ℕ)
   pub sent : Option (List ℕ)
+  -- how many bytes the last read asked for, and how many the last write offered
+  pub read_length : ℕ
+  pub write_length : ℕ
   pub told_end : Bool
+  -- it was told that nothing more will be written
+  pub finished : Bool
   -- the loop that it is attached to, or none
   pub on_loop : Option ℕ
   -- its tag, where it tells one
@@ -54,10 +59,3 @@ pub record IsCounted (l : LinkState) : Type 0 where
 -- the most bytes that are taken of a link, and the most that are sent on it
 abbrev pub most_bytes : ℕ
 most_bytes = 2 ^ 63 - 1
-
--- a source and a sink that tell nothing of their bytes, before their first call
-abbrev pub untold_source : SourceState
-untold_source = record { faults = 0; left = None; told_end = false }
-
-abbrev pub untold_sink : SinkState
-untold_sink = record { faults = 0; taken = None }

@@ -17,6 +17,7 @@ const MOST_READ: usize = 18_432;
 pub fn read_into<L: Link>(link: &mut L, now: Millis, into: &mut Pipe) -> Got
     requires room { length into.old.bytes < into.old.capacity }
     ensures fits { GotFits result (read_room into.old) }
+    ensures asks { (L.state link.new).read_length ≡ read_room into.old }
     ensures reads { ReadsInto (L.state link.old) (L.state link.new) now.0 into.old into.new result }
     ensures ended { KeepsEnd (L.state link.old).told_end result }
     ensures limit { ReadKeepsLimit (L.state link.old).taken_count result }
@@ -32,15 +33,16 @@ pub fn read_into<L: Link>(link: &mut L, now: Millis, into: &mut Pipe) -> Got
     got
 }
 
-/// Writes once what the pipe holds, and drops what was taken of it.
+/// Writes once all that the pipe holds, and drops what was taken of it.
 pub fn write_from<L: Link>(link: &mut L, now: Millis, from: &mut Pipe) -> Put
     requires some { 0 < length from.old.bytes }
     ensures fits { PutFits result (length from.old.bytes) }
+    ensures offers { (L.state link.new).write_length ≡ length from.old.bytes }
     ensures writes { WritesFrom (L.state link.old) (L.state link.new) now.0 from.old from.new result }
     ensures limit { WriteKeepsLimit (L.state link.old).sent_count result }
     ensures counted { IsCounted (L.state link.old) → IsCounted (L.state link.new) }
 {
-    let put = link.write(now, from.front());
+    let put = link.write(now, from.whole());
     if let Put::Bytes(n) = put {
         from.drop_front(n);
     }
