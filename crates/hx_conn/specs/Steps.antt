@@ -13,7 +13,7 @@ use Rattle.hx_link.specs.Links.{LinkReads, LinkWrites}
 use Rattle.hx_link.specs.Courses.{attach_fails}
 use Rattle.hx_link.specs.Nets.{NetState, OnlyFaults, AttachCounted}
 use Rattle.hx_link.specs.Pipes.{PipeNow}
-use Rattle.hx_link.specs.Moves.{ReadsInto}
+use Rattle.hx_link.specs.Moves.{ReadsInto, WritesFrom}
 use Rattle.hx_conn.specs.declared.causes.Death.{Death}
 use Rattle.hx_conn.specs.declared.causes.Death.TheVariants.{AttachFault}
 use Rattle.hx_conn.specs.declared.causes.RestCause.{RestCause}
@@ -29,9 +29,9 @@ pub record Probes (r : RestedNow) (now : ℕ) (link : LinkState) (cause : Option
   pub reads : LinkReads r.link link now answer byte
   pub tells : cause ≡ death_of answer
 
--- it rests on, where the read had to wait
+-- it rests on, where the read had to wait and the link told no end before
 abbrev pub ProbesOk : RestedNow → ℕ → RestedNow → Type 0
-ProbesOk r now new = (new ≡ record r { link = new.link }) × Probes r now new.link None
+ProbesOk r now new = (new ≡ record r { link = new.link }) × Probes r now new.link None × (r.link.told_end ≡ false)
 
 -- it is dead, where the read answered anything else
 abbrev pub ProbesDead : RestedNow → ℕ → LinkState → ConnId → ℕ → Type 0
@@ -90,6 +90,11 @@ after_call b link failed =
 abbrev pub WritesAsk : BusyNow → BusyNow → ℕ → Put → List ℕ → Type 0
 WritesAsk old new now result bytes =
     (new ≡ after_call old new.link (is_failed_put result)) × LinkWrites old.link new.link now result bytes
+
+-- one write to the link; what it took is gone from the pipe's front
+pub record SendsAsk (old new : BusyNow) (now : ℕ) (before after : PipeNow) (result : Put) : Type 0 where
+  pub busy : new ≡ after_call old new.link (is_failed_put result)
+  pub write : WritesFrom old.link new.link now before after result
 
 -- one read of the link; what it gave stands at the pipe's end
 pub record ReadsAnswer (old new : BusyNow) (now : ℕ) (before after : PipeNow) (result : Got) : Type 0 where

@@ -1,5 +1,5 @@
 -- What one call after the other takes of a link and sends on it, and that no read and no write finishes it.
-use Rattle.std.proofs.Common.{◌≡◌, ◌≤◌, ℕ, ◌+◌, List, [], ◌++◌, length, take, refl, sym, ap, subst, ◌∙◌, arith, append_assoc, Option, Some, None, option_map}
+use Rattle.std.proofs.Common.{◌≡◌, ◌≤◌, ℕ, List, [], ◌++◌, length, take, refl, sym, ap, ◌∙◌, arith, append_assoc, Option, Some, None, option_map}
 use Rattle.std.proofs.lemmas.List.{append-nil, length-append, length-take}
 use Rattle.hx_link.specs.declared.answers.Got.{Got}
 use Rattle.hx_link.specs.declared.answers.Put.{Put}

@@ -1,6 +1,6 @@
 -- What a source, a sink and a link tell of themselves. Contracts alone speak of it.
 -- Counts of faults and of waits are kept in a u64 and stand still at its end.
-use Rattle.std.specs.Prelude.{◌≡◌, ℕ, ◌-◌, ◌^◌, ◌≤◌, Bool, false, List, length, Option, None, IfSome}
+use Rattle.std.specs.Prelude.{◌≡◌, ℕ, ◌-◌, ◌^◌, ◌≤◌, Bool, List, length, Option, IfSome}
 use Rattle.hx_base.specs.Counts.{Rose}
 use Rattle.hx_base.specs.declared.plan.Plan.{Plan}
 
