@@ -1,9 +1,7 @@
 //! The fields on which the framing rests.
 ghost use Rattle.std.specs.Prelude.{◌≡◌, ◌∷◌, ◌++◌, [], ℕ, List, length, map, All};
-ghost use Rattle.std.specs.Str.{str_eq_ignore_ascii_case};
-ghost use Rattle.hx_base.specs.Spans.{bytes_in};
 ghost use Rattle.hx_message.specs.Fields.{values_of};
-ghost use Rattle.hx_head.specs.Heads.{IsIn, IsFieldIn, field_in};
+ghost use Rattle.hx_head.specs.Heads.{IsFieldIn, field_in};
 ghost use Rattle.hx_frame.specs.Framing.{IsFound, AddsFound, AreFound};
 
 use hx_base::Span;
