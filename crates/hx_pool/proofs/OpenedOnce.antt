@@ -1,5 +1,5 @@
 -- A connection is opened once, so that its Open stands at one place of a legal history.
-use Rattle.std.proofs.Common.{◌≡◌, ℕ, ◌+◌, ◌≤◌, Bool, List, [], ◌∷◌, ◌++◌, refl, sym, ap, ap₂, ◌∙◌, subst, arith, Option}
+use Rattle.std.proofs.Common.{◌≡◌, ◌+◌, ◌≤◌, Bool, List, [], ◌∷◌, ◌++◌, refl, sym, ap₂, ◌∙◌, subst, arith, Option}
 use Rattle.hx_base.specs.declared.numbers.ThreadNo.{ThreadNo}
 use Rattle.hx_base.specs.declared.numbers.SessionNo.{SessionNo}
 use Rattle.hx_base.specs.declared.numbers.ConnId.{ConnId}
@@ -11,7 +11,7 @@ use Rattle.hx_pool.specs.Table.{Table, Needs, after_entry, after, empty_table}
 use Rattle.hx_pool.specs.History.{plain, table_from, EachStep, MeetsNeeds, IsLegal}
 use Rattle.hx_pool.specs.SeatView.{History}
 use Rattle.hx_pool.specs.Wants.{WantsNewConn, IsWanted}
-use Rattle.hx_pool.proofs.Histories.{EachStep-first, EachStep-second}
+use Rattle.hx_pool.proofs.Histories.{EachStep-second}
 
 next_entry : (T : Table) (w : Option What) (e : Entry) → T.next ≤ (after_entry T w e).next
 next_entry T w (Open t n id) = omega arith

@@ -1,11 +1,9 @@
 -- Which entries show that a park was refused, tried on a small history.
-use Rattle.std.proofs.Common.{◌≡◌, ℕ, ◌+◌, ◌≤◌, true, false, List, [], ◌∷◌, ◌++◌, length, refl, sym, ap, ◌∙◌, subst, arith, lit<, lit≤, inl, inr, ⊎_elim, Some, None, length-append}
+use Rattle.std.proofs.Common.{◌≡◌, ◌+◌, ◌≤◌, true, false, List, [], ◌∷◌, ◌++◌, length, refl, sym, ap, ◌∙◌, subst, arith, lit<, lit≤, inl, ⊎_elim, Some, None, length-append}
 use Rattle.std.proofs.lemmas.List.{append_cancel_left}
 use Rattle.hx_base.specs.declared.numbers.ThreadNo.{ThreadNo}
 use Rattle.hx_base.specs.declared.numbers.SessionNo.{SessionNo}
 use Rattle.hx_base.specs.declared.numbers.ConnId.{ConnId}
-use Rattle.hx_base.specs.declared.numbers.PlaceNo.{PlaceNo}
-use Rattle.hx_base.specs.declared.rules.Mode.{Mode}
 use Rattle.hx_base.specs.declared.rules.Mode.TheVariants as mode
 use Rattle.hx_base.specs.Shown.{Shown}
 use Rattle.atomic_table.specs.Seated.{TableId}
@@ -18,7 +16,7 @@ use Rattle.hx_pool.specs.declared.refusals.NoPark.TheVariants as no
 use Rattle.hx_pool.specs.Causes.{Among, AllLooks, place_of}
 use Rattle.hx_pool.specs.History.{plain}
 use Rattle.hx_pool.specs.Parking.{parked, FindsDraining, TakesBack, RefusesPark}
-use Rattle.hx_pool.specs.SeatView.{About, History, IsOneHistory, Makes, Calls}
+use Rattle.hx_pool.specs.SeatView.{About, History, IsOneHistory, Makes}
 use Rattle.hx_pool.specs.Taking.{taking}
 use Rattle.hx_pool.specs.Wants.{EndsRefused}
 

@@ -1,5 +1,5 @@
 -- What the samples' first record covers, and what stands right behind it.
-use Rattle.std.proofs.Common.{◌≡◌, ℕ, ◌++◌, refl, lit≤, arith}
+use Rattle.std.proofs.Common.{◌++◌, refl, lit≤, arith}
 use Rattle.hx_record.specs.Covers.{CoversClient, FollowsClient, CoversConn, FollowsConn}
 use Rattle.hx_record.specs.CutSamples.{own_answer, own_of, RecountsOwn}
 use Rattle.hx_record.specs.declared.served.LeftCause.TheVariants as cause

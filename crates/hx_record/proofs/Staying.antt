@@ -1,10 +1,9 @@
 -- A record stays true as its links go on.
-use Rattle.std.proofs.Common.{◌≡◌, ℕ, ◌-◌, ◌≤◌, Bool, true, List, ◌++◌, length, take, drop, refl, sym, ap, ◌∙◌, subst, arith, length-append}
+use Rattle.std.proofs.Common.{◌≡◌, ℕ, ◌-◌, ◌≤◌, true, List, ◌++◌, length, take, drop, sym, ap, ◌∙◌, subst, arith, length-append}
 use Rattle.std.specs.Prelude.{◌↔◌, ◌⊎◌}
 use Rattle.std.proofs.lemmas.List.{length-drop, drop-append-le, take-append-le}
 use Rattle.hx_base.specs.declared.numbers.Span.{Span}
 use Rattle.hx_base.specs.Spans.{bytes_in, LiesIn, span_size}
-use Rattle.hx_message.specs.declared.MethodKind.{MethodKind}
 use Rattle.hx_message.specs.Body.{kind_of_method}
 use Rattle.hx_message.specs.Exchanges.{AreExchanges}
 use Rattle.hx_message.specs.Forwarded.{BeginsRequest, ForwardsRequest, ForwardsAnswer}
@@ -12,7 +11,7 @@ use Rattle.hx_message.specs.Message.{IsRequest, IsWholeAnswer, WantsClose, RunsT
 use Rattle.hx_message.specs.Partial.{IsPrefix, EndsRequest, EndsAnswer, HasFinalHead, BeginsForwardedRequest, BeginsForwardedAnswer}
 use Rattle.hx_record.specs.Carriage.{Carriage}
 use Rattle.hx_record.specs.GoingOn.{GoesOn, ReadsNoMore, MayGoOn}
-use Rattle.hx_record.specs.Truth.{HasRanges, IsTruePassed, IsEarly, IsTrueCut, LeftBeforeAll, IsTrueOwn, RecountsBytes}
+use Rattle.hx_record.specs.Truth.{HasRanges, IsTruePassed, IsTrueCut, LeftBeforeAll, IsTrueOwn, RecountsBytes}
 use Rattle.hx_record.specs.declared.served.Carried.{Carried}
 use Rattle.hx_record.specs.declared.served.CutCause.{CutCause}
 use Rattle.hx_record.specs.declared.served.CutCause.TheVariants as cut

@@ -1,10 +1,8 @@
 -- What a caller of the seat keeps: the seat's server, and where a quota stands.
-use Rattle.std.proofs.Common.{◌≡◌, ℕ, ◌+◌, ◌-◌, ◌*◌, ◌%◌, ◌<◌, ◌≤◌, refl, sym, ap, ◌∙◌, subst, arith, Option, Some, None, Ok, Err, ⊎_elim}
+use Rattle.std.proofs.Common.{◌≡◌, ◌-◌, sym, subst, arith, Option, Some, None, Ok, Err, ⊎_elim}
 use Rattle.std.specs.Prelude.{Result, MatchOption, MatchResult}
-use Rattle.std.proofs.Math.Nat.{mod-eq_of_lt}
 use Rattle.hx_base.specs.declared.numbers.SessionNo.{SessionNo}
 use Rattle.hx_base.specs.declared.numbers.PlaceNo.{PlaceNo}
-use Rattle.hx_base.specs.declared.numbers.Millis.{Millis}
 use Rattle.hx_base.specs.Shown.{Shown}
 use Rattle.hx_pool.specs.declared.budget.Quota.{Quota}
 use Rattle.hx_pool.specs.declared.refusals.NoPark.{NoPark}
@@ -13,11 +11,10 @@ use Rattle.hx_pool.specs.declared.refusals.NoneOver.{NoneOver}
 use Rattle.hx_pool.specs.declared.refusals.NoneOver.TheVariants.{NotAllowed, BelowLow, NoneSeen}
 use Rattle.hx_pool.specs.declared.refusals.Unparked.{Unparked}
 use Rattle.hx_pool.specs.SeatView.{About, History}
-use Rattle.hx_pool.specs.Causes.{place_of}
 use Rattle.hx_pool.specs.Parking.{Parks, RefusesPark, FindsDraining, TakesBack}
 use Rattle.hx_pool.specs.Takeover.{TakesOver, RefusesTakeover}
 use Rattle.hx_pool.specs.Drain.{DrainsOne, DrainsNone}
-use Rattle.hx_pool.specs.Purge.{GivesQuota, StandsAt, PurgesOne, PurgesNone, EndsPurge, quota_of, round_at}
+use Rattle.hx_pool.specs.Purge.{StandsAt, PurgesOne, PurgesNone, EndsPurge}
 
 refuses_about : (old new : History) (n : SessionNo) (v : Shown) (why : NoPark) → RefusesPark old new n v why → new.about ≡ old.about
 refuses_about old new n v Never r = r.1.makes.about
