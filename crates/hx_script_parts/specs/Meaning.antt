@@ -87,6 +87,7 @@ meaning_with c r = record {
 abbrev pub longest_text : ℕ
 longest_text = 1048576
 
+-- what the lines behind the configuration mean: n is how many lines it has
 abbrev pub lines_meant : ℕ → config.Meaning × List ℕ → Result Meaning Flaw
 lines_meant n x = do
   r ← lines_read x.0 (n + 3) nothing_read (lines_of x.1)
