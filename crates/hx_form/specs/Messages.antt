@@ -5,7 +5,7 @@ use Rattle.hx_message.specs.Forwarded.{ForwardsRequest, ForwardsAnswer}
 use Rattle.hx_message.specs.Message.{IsRequest, IsAnswer, WantsClose, RunsToEnd, Persists}
 use Rattle.hx_message.specs.Limits.{IsShortRequest, IsShortAnswer}
 
--- a request and its answer, with the texts that go out for them and what they tell of their connections
+-- the messages of one exchange, on both links
 pub record Messages : Type 0 where
   pub method : MethodKind
   pub ask : List ℕ

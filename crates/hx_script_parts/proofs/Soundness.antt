@@ -350,7 +350,7 @@ fail_keeps c n r ws h =
     link_kept c n n 0 r l (record l { fail = Some k.0 }) (omega arith) (omega arith) h there refl (and_from _ _ (limits_of c n r l h there).0 (number_low 1 greatest ws k k_is))))))
 
 order_keeps : (what : OrderWord) (c : config.Meaning) (n : ℕ) (r : Reading) (ws : Rest) → IsSound c n r → Keeps c n (means.order_line what c r ws)
-order_keeps what c r ws h =
+order_keeps what c n r ws h =
     then_keeps c n (moment_at ws) _ (λ m _. then_keeps c n (server_at c m.1) _ (λ server server_is. then_keeps c n (at_end server.1) _ (λ e _.
     let more : Reading = record r { orders = r.orders ++ (m.0, means.order_of what server.0) ∷ [] } in
     kept_moment c n m.0 more (record {

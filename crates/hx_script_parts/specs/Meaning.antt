@@ -87,6 +87,7 @@ meaning_with c r = record {
   moments = as_moments (with_moment (record { 0 = 0 }) r.moments);
 }
 
+-- what the lines behind the configuration mean: n is how many lines it has
 abbrev pub lines_meant : ℕ → config.Meaning × List ℕ → Result Meaning Flaw
 lines_meant n x = do
   r ← lines_read x.0 (n + 3) nothing_read (lines_of x.1)
