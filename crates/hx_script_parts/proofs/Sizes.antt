@@ -1,5 +1,5 @@
 -- A word, a number and a byte text have no more bytes than what they are read from.
-use Rattle.std.proofs.Common.{◌≡◌, ℕ, suc, ◌+◌, ◌≤◌, Bool, true, false, cond, List, [], ◌∷◌, ◌++◌, length, drop, Option, Some, None, Result, Ok, Err, arith}
+use Rattle.std.proofs.Common.{◌≡◌, ℕ, suc, ◌+◌, ◌≤◌, Bool, true, false, cond, List, [], ◌∷◌, ◌++◌, length, drop, Option, Some, None, Result, Ok, Err, refl, arith}
 use Rattle.std.specs.Prelude.{IfOk, ◌==◌}
 use Rattle.std.specs.List.{prefix_len}
 use Rattle.std.proofs.lemmas.List.{length-append, length-drop}
@@ -61,7 +61,7 @@ abbrev pub size : Rest → ℕ
 size None = 0
 size (Some bs) = length bs
 
-behind_pub word_small : (bs : List ℕ) → size (behind_word bs) ≤ length bs
+behind_word_small : (bs : List ℕ) → size (behind_word bs) ≤ length bs
 behind_word_small [] = omega arith
 behind_word_small (b ∷ bs) = omega arith
 

@@ -16,7 +16,7 @@ use Rattle.hx_base.specs.declared.numbers.ThreadNo.{ThreadNo}
 use Rattle.hx_base.specs.declared.order.Order.{Order}
 use Rattle.hx_config.specs.Limits.{all_servers}
 use Rattle.hx_config.specs.Meaning as config
-use Rattle.hx_config.specs.Keywords.{found, or_else}
+use Rattle.hx_config_parts.specs.Tables.{found, or_else}
 use Rattle.hx_config.specs.declared.parts.Back.{Back}
 use Rattle.hx_config.specs.declared.parts.Front.{Front}
 use Rattle.hx_config.specs.declared.parts.Server.{Server}
@@ -46,7 +46,7 @@ use Rattle.hx_script_parts.specs.Numbers.{greatest, is_decimal, number_in, numbe
 use Rattle.hx_script_parts.specs.Reading.{with_moment, as_moments, empty_link, plan_of, with_plan, ended, closed, with_link, at_moment, is_refused, link_of, link_at, nothing_read}
 use Rattle.hx_script_parts.specs.Sound.{clients_in, plans_in, is_owner_of, clients_open, plans_open, is_link_of, bytes_open, IsSound}
 use Rattle.hx_script_parts.specs.Statements as means
-use Rattle.hx_config.specs.Numbers.{value}
+use Rattle.hx_config_parts.specs.Numbers.{value}
 
 -- what is read is sound, where something is read
 abbrev pub Keeps : config.Meaning → ℕ → Result Reading Rule → Type 0
@@ -350,7 +350,7 @@ fail_keeps c n r ws h =
     link_kept c n n 0 r l (record l { fail = Some k.0 }) (omega arith) (omega arith) h there refl (and_from _ _ (limits_of c n r l h there).0 (number_low 1 greatest ws k k_is))))))
 
 order_keeps : (what : OrderWord) (c : config.Meaning) (n : ℕ) (r : Reading) (ws : Rest) → IsSound c n r → Keeps c n (means.order_line what c r ws)
-order_keeps what c r ws h =
+order_keeps what c n r ws h =
     then_keeps c n (moment_at ws) _ (λ m _. then_keeps c n (server_at c m.1) _ (λ server server_is. then_keeps c n (at_end server.1) _ (λ e _.
     let more : Reading = record r { orders = r.orders ++ (m.0, means.order_of what server.0) ∷ [] } in
     kept_moment c n m.0 more (record {
