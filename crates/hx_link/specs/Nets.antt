@@ -78,7 +78,10 @@ NetDials state old new server id (Ok link) =
     × StaysTold old.buried new.buried × IsDialled server id (state link)
 NetDials state old new server id (Err fault) =
     (new ≡ record old {
-      faults = new.faults; dials = new.dials; buried = new.buried; course = option_map (after_dial server) old.course;
+      faults = new.faults;
+      dials = new.dials;
+      buried = new.buried;
+      course = option_map (after_dial server) old.course;
     })
     × HasNoNext server old.course new
     × GainsTold (told_dial server id false None) old.dials new.dials

@@ -9,8 +9,7 @@ use crate::answers::{Got, Put};
 use crate::link::Link;
 use crate::link_bytes::{LinkBytes, join_pieces};
 use crate::place::{Due, MOST_TAKEN, Place, find_due, give_next, pass_taken};
-use hx_base::Plan;
-use hx_base::{Bytes, ConnId, Millis, NoMemory, ServerNo, ThreadNo};
+use hx_base::{Bytes, ConnId, Millis, NoMemory, Plan, ServerNo, ThreadNo};
 use std::marker::Model;
 
 /// The most bytes that are sent on a link.
