@@ -9,9 +9,6 @@ use hx_head::{AnswerHead, HeadRead, forward_answer, read_answer};
 use hx_link::Pipe;
 use hx_message::{BodyKind, MethodKind};
 
-/// The most bytes of a head that goes out.
-const MOST_TEXT: usize = 18_432;
-
 /// A final answer whose head is there.
 #[derive(Clone, Copy)]
 pub struct Answered {
@@ -77,14 +74,16 @@ pub fn spell_answer(from: &mut Pipe, to: &mut Pipe, head: &AnswerHead, closing: 
     ensures none { result ≡ false → (from.new ≡ from.old) × (to.new ≡ to.old) × AnswerHasNoRoom from.old.bytes to.old head.now closing }
     ensures room { result ≡ false → to.old.capacity < length to.old.bytes + most_text }
 {
-    let mut text = [0u8; MOST_TEXT];
-    match forward_answer(from.whole(), head, closing, &mut text) {
-        Ok(n) if n <= to.room() => {
-            to.fill(&text[..n]);
+    let room = to.room();
+    match forward_answer(from.whole(), head, closing, to.grow(room)) {
+        Ok(n) => {
+            to.drop_back(room - n);
             from.drop_front(head.length as usize);
             true
         }
-        Ok(_) => false,
-        Err(_) => unreachable!(),
+        Err(_) => {
+            to.drop_back(room);
+            false
+        }
     }
 }
