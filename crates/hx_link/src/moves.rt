@@ -3,7 +3,7 @@ ghost use Rattle.std.specs.Prelude.{◌≡◌, ◌<◌, length};
 ghost use Rattle.hx_link.specs.Sources.{GotFits, PutFits, KeepsEnd};
 ghost use Rattle.hx_link.specs.Links.{ReadKeepsLimit, WriteKeepsLimit};
 ghost use Rattle.hx_link.specs.Told.{IsCounted};
-ghost use Rattle.hx_link.specs.Moves.{read_room, ReadsInto, WritesFrom};
+ghost use Rattle.hx_link.specs.Moves.{got_count, read_room, ReadsInto, WritesFrom};
 
 use crate::answers::{Got, Put};
 use crate::link::Link;
@@ -12,6 +12,16 @@ use hx_base::Millis;
 
 /// The most bytes of one read.
 const MOST_READ: usize = 18_432;
+
+/// How many bytes a read gave.
+fn count_of(got: Got) -> usize
+    ensures { result ≡ got_count got }
+{
+    match got {
+        Got::Bytes(n) => n,
+        Got::NotYet | Got::End | Got::Failed => 0,
+    }
+}
 
 /// Reads once, at most 18,432 bytes and what the pipe has room for, and puts them at its end.
 pub fn read_into<L: Link>(link: &mut L, now: Millis, into: &mut Pipe) -> Got
@@ -23,13 +33,9 @@ pub fn read_into<L: Link>(link: &mut L, now: Millis, into: &mut Pipe) -> Got
     ensures limit { ReadKeepsLimit (L.state link.old).taken_count result }
     ensures counted { IsCounted (L.state link.old) → IsCounted (L.state link.new) }
 {
-    let mut buffer = [0; MOST_READ];
     let room = into.room().min(MOST_READ);
-    let chunk = &mut buffer[..room];
-    let got = link.read(now, chunk);
-    if let Got::Bytes(n) = got {
-        into.fill(&chunk[..n]);
-    }
+    let got = link.read(now, into.grow(room));
+    into.drop_back(room - count_of(got));
     got
 }
 

@@ -1,5 +1,5 @@
 -- A head goes out with at most two bytes more a field, and a few more.
-use Rattle.std.proofs.Common.{◌≡◌, ℕ, ◌+◌, ◌*◌, ◌≤◌, List, [], ◌∷◌, ◌++◌, length, reverse, filter, Bool, true, false, ap, arith, subst, if◌then◌else◌, Result, Err}
+use Rattle.std.proofs.Common.{◌≡◌, ℕ, ◌+◌, ◌*◌, ◌<◌, ◌≤◌, List, [], ◌∷◌, ◌++◌, length, reverse, filter, Bool, true, false, ap, arith, subst, if◌then◌else◌, Result, Err}
 use Rattle.std.specs.Prelude.{Some, None, Option, codes, take}
 use Rattle.std.specs.List.{flat_map}
 use Rattle.std.proofs.lemmas.List.{length-append, length-reverse, length-map, length-take}
@@ -156,16 +156,16 @@ pub answer_fits : (bytes : List ℕ) (h : answer.AnswerHead) (g : ResponseHead) 
 answer_fits bytes h g closing at short =
     omega (arith, short, few_answer_fields bytes h g at, answer_grows g closing, ap length at.reads.1, length-append (print_response g) [], length-take h.length bytes)
 
--- ---- so its text always has room in an array of that size
+-- ---- so a room that is too short for its text is shorter than that
 
-pub request_has_room : (bytes : List ℕ) (h : request.RequestHead) (old new : List ℕ) (r : Result ℕ NoRoom) (e : NoRoom) → length old ≡ most_text → r ≡ Err e
-    → WritesRequest bytes h old new r → (g : RequestHead) → IsRequestAt bytes h g → h.length ≤ head_limit → ⊥
-request_has_room bytes h old new r e room is writes g at short =
+pub request_room : (bytes : List ℕ) (h : request.RequestHead) (old new : List ℕ) (r : Result ℕ NoRoom) (e : NoRoom) → r ≡ Err e
+    → WritesRequest bytes h old new r → (g : RequestHead) → IsRequestAt bytes h g → h.length ≤ head_limit → length old < most_text
+request_room bytes h old new r e is writes g at short =
     let put = subst (λ (x : Result ℕ NoRoom). Puts (forwarded_request g) old new x) is (writes g at) in
-    omega (arith, put.1, room, request_fits bytes h g at short)
+    omega (arith, put.1, request_fits bytes h g at short)
 
-pub answer_has_room : (bytes : List ℕ) (h : answer.AnswerHead) (closing : Bool) (old new : List ℕ) (r : Result ℕ NoRoom) (e : NoRoom) → length old ≡ most_text → r ≡ Err e
-    → WritesAnswer bytes h closing old new r → (g : ResponseHead) → IsAnswerAt bytes h g → h.length ≤ head_limit → ⊥
-answer_has_room bytes h closing old new r e room is writes g at short =
+pub answer_room : (bytes : List ℕ) (h : answer.AnswerHead) (closing : Bool) (old new : List ℕ) (r : Result ℕ NoRoom) (e : NoRoom) → r ≡ Err e
+    → WritesAnswer bytes h closing old new r → (g : ResponseHead) → IsAnswerAt bytes h g → h.length ≤ head_limit → length old < most_text
+answer_room bytes h closing old new r e is writes g at short =
     let put = subst (λ (x : Result ℕ NoRoom). Puts (forwarded_answer g closing) old new x) is (writes g at) in
-    omega (arith, put.1, room, answer_fits bytes h g closing at short)
+    omega (arith, put.1, answer_fits bytes h g closing at short)

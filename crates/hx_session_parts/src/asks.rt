@@ -13,9 +13,6 @@ use hx_head::{HeadRead, RequestHead, forward_request, read_request};
 use hx_link::Pipe;
 use hx_message::{BodyKind, FrameFault, MethodKind};
 
-/// The most bytes of a head that goes out.
-pub(crate) const MOST_TEXT: usize = 18_432;
-
 /// A request whose head is there.
 #[derive(Clone, Copy)]
 pub struct Asked {
@@ -94,14 +91,16 @@ pub fn spell_ask(from: &mut Pipe, to: &mut Pipe, asked: &Asked) -> Option<Meter>
     ensures none { IfNone result (LeavesAsk from.old from.new to.old to.new asked.now) }
     ensures room { IfNone result (to.old.capacity < length to.old.bytes + most_text) }
 {
-    let mut text = [0u8; MOST_TEXT];
-    match forward_request(from.whole(), &asked.head, &mut text) {
-        Ok(n) if n <= to.room() => {
-            to.fill(&text[..n]);
+    let room = to.room();
+    match forward_request(from.whole(), &asked.head, to.grow(room)) {
+        Ok(n) => {
+            to.drop_back(room - n);
             from.drop_front(asked.head.length as usize);
             Some(Meter::new(asked.kind))
         }
-        Ok(_) => None,
-        Err(_) => unreachable!(),
+        Err(_) => {
+            to.drop_back(room);
+            None
+        }
     }
 }
