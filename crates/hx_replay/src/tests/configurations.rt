@@ -1,5 +1,5 @@
-use hx_config::*;
 use hx_base::{Millis, Mode, PoolRules, ServerNo};
+use hx_config::*;
 use std::alloc::Global;
 use std::test::Fail;
 

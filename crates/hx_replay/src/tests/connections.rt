@@ -5,8 +5,8 @@ ghost use Rattle.std.specs.Prelude.{◌≡◌, ◌<◌, None, false, length, IfO
 mod doubles;
 
 use crate::tests::connections::doubles::{Muted, MutedNet, Script};
-use hx_conn::*;
 use hx_base::{Address, ConnId, Face, Faced, Host, Millis, ServerNo};
+use hx_conn::*;
 use hx_link::{Got, MemoryNet, Net, Pipe, Put};
 use std::alloc::Global;
 use std::process::Abort;

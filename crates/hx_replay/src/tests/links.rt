@@ -2,8 +2,8 @@
 ghost use Rattle.std.specs.Prelude.{◌≡◌, ◌≤◌, All, IfOk, IfSome};
 ghost use Rattle.hx_link.specs.MemoryNets.{IsPlan};
 
-use hx_link::*;
 use hx_base::{Address, Bytes, ConnId, Host, Items, Millis, ServerNo, ThreadNo};
+use hx_link::*;
 use std::alloc::Global;
 use std::io::{self, Read, Write};
 use std::process::Abort;

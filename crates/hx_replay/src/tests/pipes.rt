@@ -1,8 +1,10 @@
 //! Heads that are looked at and spelled anew, and bodies that pass, through pipes.
-use hx_session_parts::{AnswerLook, AskLook, look_answer, look_ask, pass_body, spell_answer, spell_ask};
 use hx_frame::{Meter, MeterState};
 use hx_link::Pipe;
 use hx_message::{BodyKind, MethodKind};
+use hx_session_parts::{
+    AnswerLook, AskLook, look_answer, look_ask, pass_body, spell_answer, spell_ask,
+};
 use std::alloc::Global;
 use std::test::Fail;
 

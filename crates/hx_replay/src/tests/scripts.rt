@@ -1,7 +1,7 @@
 //! Scripts and their faults, typed from the format.
-use hx_script_parts::*;
 use hx_base::{Items, Millis, Order, ServerNo, ThreadNo};
 use hx_link::Plan;
+use hx_script_parts::*;
 use std::alloc::Global;
 use std::test::Fail;
 

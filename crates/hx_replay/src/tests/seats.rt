@@ -2,9 +2,9 @@
 
 mod bench;
 
-use hx_plain::PlainSeat;
 use bench::{Bench, Card, Cards, purged, rules};
 use hx_base::{ConnId, Millis, Mode, PlaceNo, ServerNo, SessionNo, ThreadNo};
+use hx_plain::PlainSeat;
 use hx_pool::{JournalSeat, NoPark, NoneOver, Seat, allowed, one_exchange};
 use std::test::Fail;
 
@@ -124,7 +124,10 @@ fn a_journal_passes_each_call_on_and_keeps_its_marks(rt: HostRuntime) -> Result<
     if let Some(quota) = &mut due {
         assert!(rt; seat.purge_next(quota).is_none());
     }
-    assert_eq!(rt; seat.take_over(SessionNo(1), true).err(), Some(NoneOver::BelowLow(0)));
+    assert_eq!(rt;
+        seat.take_over(SessionNo(1), true).err(),
+        Some(NoneOver::BelowLow(0))
+    );
     seat.set_drain();
     assert!(rt; !seat.ready());
     assert!(rt; seat.drain_next().is_none());

@@ -2,13 +2,13 @@
 ghost use Rattle.std.specs.Prelude.{◌≡◌, All, IfOk};
 ghost use Rattle.hx_script.specs.PrintedForm.{IsToldMark, IsToldKind, IsToldRecord};
 
-use hx_script::{ServerPart, Transcript, print_transcript};
 use hx_base::{
     Bytes, ConnId, Items, Millis, Mode, NoMemory, PlaceNo, PoolRules, ServerNo, SessionNo, Span,
     ThreadNo, Totals,
 };
 use hx_pool::Entry;
 use hx_record::{Carried, ClientBytes, ConnBytes, CutCause, Kind, Left, LeftCause, Served, Told};
+use hx_script::{ServerPart, Transcript, print_transcript};
 use std::alloc::Global;
 use std::test::Fail;
 

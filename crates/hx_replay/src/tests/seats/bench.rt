@@ -1,10 +1,10 @@
 //! A seat with values that show a face alone, for session 1.
 ghost use Rattle.std.specs.Prelude.{◌≡◌};
 
-use hx_plain::PlainSeat;
 use hx_base::{
     ConnId, Face, Faced, Millis, Mode, NoMemory, PlaceNo, PoolRules, ServerNo, SessionNo,
 };
+use hx_plain::PlainSeat;
 use hx_pool::{Dials, NoPark, NoneOver, Seat};
 use std::alloc::Global;
 
