@@ -18,9 +18,9 @@ mod statements;
 mod words;
 
 pub use fault::TextFault;
+pub use laws::samples;
 pub use lines::Lines;
 pub use quoted::{byte_text_at_front, one_byte_text, read_quoted};
-pub use laws::samples;
 pub use read::read_script;
 pub use script::{ClientLine, Script};
 
