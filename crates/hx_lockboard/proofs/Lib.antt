@@ -11,5 +11,4 @@ pub mod Rounds
 pub mod Overs
 pub mod Parks
 pub mod Boards
-pub mod Calling
-pub mod TwoSeats
+pub mod Alike

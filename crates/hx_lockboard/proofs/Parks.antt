@@ -133,17 +133,17 @@ module _ {V : Type 0} (shows : V → Shown) (k : Start shows) (shares : k.b.rule
   abbrev rests : List Rested
   rests = rests_of shows k.rows.resting.items
 
-  abbrev K : Bool → ℕ → Known
-  K d c = record { next = k.rows.next; draining = d; count = c; round = k.rows.round }
+  abbrev known_with : Bool → ℕ → Known
+  known_with d c = record { next = k.rows.next; draining = d; count = c; round = k.rows.round }
 
-  abbrev L : ℕ → List Note
-  L j = looks_run k.t k.b.threads rests 0 j
+  abbrev looks : ℕ → List Note
+  looks j = looks_run k.t k.b.threads rests 0 j
 
-  abbrev looked : (j : ℕ) → AllLooks k.t (L j)
+  abbrev looked : (j : ℕ) → AllLooks k.t (looks j)
   looked j = run_looks k.t k.b.threads rests 0 j
 
-  with_looks_even : (j : ℕ) (es : List Note) → IsEven es → IsEven (L j ++ es)
-  with_looks_even j es even = even-append (L j) es (looks_even k.t (L j) (looked j)) even
+  with_looks_even : (j : ℕ) (es : List Note) → IsEven es → IsEven (looks j ++ es)
+  with_looks_even j es even = even-append (looks j) es (looks_even k.t (looks j) (looked j)) even
 
   own : (q : ℕ) → q < 64 → nth_place k.t k.b.threads q ≡ place_of k.t.0 q
   own q h = nth_own k.t k.b.threads q (low_of shows k) h
@@ -152,31 +152,31 @@ module _ {V : Type 0} (shows : V → Shown) (k : Start shows) (shares : k.b.rule
   no_open [] ys l = refl
   no_open (x ∷ xs) ys l = ap (λ (z : Note). opens_of (z ∷ (xs ++ ys))) l.0.2 ∙ no_open xs ys l.1
 
-  shows_taken : (j q : ℕ) → q < j → q < 64 → spot_in rests (nth_no k.t k.b.threads q) ≢ Vacant → ShowsTaken k.t (L j) (place_of k.t.0 q)
+  shows_taken : (j q : ℕ) → q < j → q < 64 → spot_in rests (nth_no k.t k.b.threads q) ≢ Vacant → ShowsTaken k.t (looks j) (place_of k.t.0 q)
   shows_taken j q h low ne =
       let z : 0 + q ≡ q = omega arith in
-      let P : ℕ → Type 0 = λ i. Among (λ e. e ≡ Look k.t (nth_place k.t k.b.threads i) (found_of (spot_in rests (nth_no k.t k.b.threads i)))) (L j) in
+      let P : ℕ → Type 0 = λ i. Among (λ e. e ≡ Look k.t (nth_place k.t k.b.threads i) (found_of (spot_in rests (nth_no k.t k.b.threads i)))) (looks j) in
       let here : P q = subst P z (run_among k.t k.b.threads rests 0 j q h) in
-      (found_of (spot_in rests (nth_no k.t k.b.threads q)), (λ e. ne (empty_vacant rests (nth_no k.t k.b.threads q) e)), subst (λ (pl : PlaceNo). Among (λ e. e ≡ Look k.t pl (found_of (spot_in rests (nth_no k.t k.b.threads q)))) (L j)) (own q low) here)
+      (found_of (spot_in rests (nth_no k.t k.b.threads q)), (λ e. ne (empty_vacant rests (nth_no k.t k.b.threads q) e)), subst (λ (pl : PlaceNo). Among (λ e. e ≡ Look k.t pl (found_of (spot_in rests (nth_no k.t k.b.threads q)))) (looks j)) (own q low) here)
 
-  finds_vacant : (p : ℕ) → IsFirstVacant k.t k.b.threads rests p → FindsVacant k.t (L (p + 1)) (place_of k.t.0 p)
+  finds_vacant : (p : ℕ) → IsFirstVacant k.t k.b.threads rests p → FindsVacant k.t (looks (p + 1)) (place_of k.t.0 p)
   finds_vacant p f =
       let low = f.inside in
       let z : 0 + p ≡ p = omega arith in
-      let P : ℕ → Type 0 = λ i. Among (λ e. e ≡ Look k.t (nth_place k.t k.b.threads i) (found_of (spot_in rests (nth_no k.t k.b.threads i)))) (L (p + 1)) in
+      let P : ℕ → Type 0 = λ i. Among (λ e. e ≡ Look k.t (nth_place k.t k.b.threads i) (found_of (spot_in rests (nth_no k.t k.b.threads i)))) (looks (p + 1)) in
       let here : P p = subst P z (run_among k.t k.b.threads rests 0 (p + 1) p (omega arith)) in
-      let there = subst (λ (pl : PlaceNo). Among (λ e. e ≡ Look k.t pl (found_of (spot_in rests (nth_no k.t k.b.threads p)))) (L (p + 1))) (own p low) here in record {
+      let there = subst (λ (pl : PlaceNo). Among (λ e. e ≡ Look k.t pl (found_of (spot_in rests (nth_no k.t k.b.threads p)))) (looks (p + 1))) (own p low) here in record {
         row = refl;
         inside = low;
         below = λ q h. shows_taken (p + 1) q (omega arith) (omega arith) (f.below q h);
-        vacant = subst (λ s. Among (λ e. e ≡ Look k.t (place_of k.t.0 p) (found_of s)) (L (p + 1))) f.vacant there;
+        vacant = subst (λ s. Among (λ e. e ≡ Look k.t (place_of k.t.0 p) (found_of s)) (looks (p + 1))) f.vacant there;
       }
 
-  ran : (j : ℕ) → Stands k.b (whole shows k ++ L j) (known_of shows k.rows) rests
+  ran : (j : ℕ) → Stands k.b (whole shows k ++ looks j) (known_of shows k.rows) rests
   ran j = run_stands k.b k.t (low_of shows k) (whole shows k) (known_of shows k.rows) rests (after_of shows k).stands 0 j
 
-  gated_stands : (j : ℕ) → Stands k.b (whole shows k ++ (L j ++ plain (Gate k.t k.rows.draining) ∷ [])) (known_of shows k.rows) rests
-  gated_stands j = subst (λ hs. Stands k.b hs (known_of shows k.rows) rests) (append_assoc (whole shows k) (L j) (plain (Gate k.t k.rows.draining) ∷ [])) (gate_stands k.b k.t (low_of shows k) (whole shows k ++ L j) (known_of shows k.rows) rests (ran j))
+  gated_stands : (j : ℕ) → Stands k.b (whole shows k ++ (looks j ++ plain (Gate k.t k.rows.draining) ∷ [])) (known_of shows k.rows) rests
+  gated_stands j = subst (λ hs. Stands k.b hs (known_of shows k.rows) rests) (append_assoc (whole shows k) (looks j) (plain (Gate k.t k.rows.draining) ∷ [])) (gate_stands k.b k.t (low_of shows k) (whole shows k ++ looks j) (known_of shows k.rows) rests (ran j))
 
   rooms : 64 * k.b.threads ≤ vec_capacity k.rows.resting
   rooms = (after_of shows k).roomy
@@ -186,7 +186,7 @@ module _ {V : Type 0} (shows : V → Shown) (k : Start shows) (shares : k.b.rule
 
   row_full : (n : SessionNo) (v : Shown) (d2 : DeskView) → Scanned k.d1 d2 k.t k.b.threads rests 64 64 → Refused shows k d2 n v RowFull
   row_full n v d2 scan =
-      let ys : List Note = L 64 in
+      let ys : List Note = looks 64 in
       let by = looks_by k.t ys (looked 64) in
       let after = as_was ys (ran 64) in record {
         go = record { ys = ys; wrote = scan.desk; all = by; after = after };
@@ -207,65 +207,65 @@ module _ {V : Type 0} (shows : V → Shown) (k : Start shows) (shares : k.b.rule
         );
       }
 
-  shut_out : (n : SessionNo) (v : Shown) (d2 : DeskView) → k.rows.draining ≡ true → (q : ℕ) → IsFirstVacant k.t k.b.threads rests q → d2 ≡ adds_notes k.d1 (L (q + 1) ++ plain (Gate k.t true) ∷ []) → Refused shows k d2 n v Draining
+  shut_out : (n : SessionNo) (v : Shown) (d2 : DeskView) → k.rows.draining ≡ true → (q : ℕ) → IsFirstVacant k.t k.b.threads rests q → d2 ≡ adds_notes k.d1 (looks (q + 1) ++ plain (Gate k.t true) ∷ []) → Refused shows k d2 n v Draining
   shut_out n v d2 shut q first wrote =
-      let ys : List Note = L (q + 1) ++ plain (Gate k.t true) ∷ [] in
+      let ys : List Note = looks (q + 1) ++ plain (Gate k.t true) ∷ [] in
       let low = first.inside in
-      let by = all_by-append k.t (L (q + 1)) (plain (Gate k.t true) ∷ []) (looks_by k.t (L (q + 1)) (looked (q + 1))) (refl, tt) in
-      let after = as_was ys (subst (λ (z : Bool). Stands k.b (whole shows k ++ (L (q + 1) ++ plain (Gate k.t z) ∷ [])) (known_of shows k.rows) rests) shut (gated_stands (q + 1))) in record {
+      let by = all_by-append k.t (looks (q + 1)) (plain (Gate k.t true) ∷ []) (looks_by k.t (looks (q + 1)) (looked (q + 1))) (refl, tt) in
+      let after = as_was ys (subst (λ (z : Bool). Stands k.b (whole shows k ++ (looks (q + 1) ++ plain (Gate k.t z) ∷ [])) (known_of shows k.rows) rests) shut (gated_stands (q + 1))) in record {
         go = record { ys = ys; wrote = wrote; all = by; after = after };
-        plainly = no_drain-append (L (q + 1)) _ (looks_no_drain k.t (L (q + 1)) (looked (q + 1))) (tt, tt);
-        totals = totals_from-looks k.t (L (q + 1)) _ k.totals (looked (q + 1));
-        opens = no_open (L (q + 1)) _ (looked (q + 1));
-        marks = marks_after_looks k.t (L (q + 1)) _ (looked (q + 1));
-        few = let e = length-looks_run k.t k.b.threads rests 0 (q + 1) in omega (arith, length-append (L (q + 1)) (plain (Gate k.t true) ∷ []));
+        plainly = no_drain-append (looks (q + 1)) _ (looks_no_drain k.t (looks (q + 1)) (looked (q + 1))) (tt, tt);
+        totals = totals_from-looks k.t (looks (q + 1)) _ k.totals (looked (q + 1));
+        opens = no_open (looks (q + 1)) _ (looked (q + 1));
+        marks = marks_after_looks k.t (looks (q + 1)) _ (looked (q + 1));
+        few = let e = length-looks_run k.t k.b.threads rests 0 (q + 1) in omega (arith, length-append (looks (q + 1)) (plain (Gate k.t true) ∷ []));
         even = with_looks_even (q + 1) _ refl;
-        refuses = λ d3 back. (shares, keeps, inl (record { looks = L (q + 1); place = place_of k.t.0 q; looked = looked (q + 1); found = finds_vacant q first; makes = calls_of shows k d2 ys wrote d3 back by k.rows after (with_looks_even (q + 1) _ refl) }));
+        refuses = λ d3 back. (shares, keeps, inl (record { looks = looks (q + 1); place = place_of k.t.0 q; looked = looked (q + 1); found = finds_vacant q first; makes = calls_of shows k d2 ys wrote d3 back by k.rows after (with_looks_even (q + 1) _ refl) }));
       }
 
   -- looks, a gate that shows ready, and the count
   module _ (ready : k.rows.draining ≡ false) where
-    st₀ : (j : ℕ) → Stands k.b (whole shows k ++ (L j ++ plain (Gate k.t false) ∷ [])) (K false (length rests)) rests
-    st₀ j = subst (λ (z : Bool). Stands k.b (whole shows k ++ (L j ++ plain (Gate k.t z) ∷ [])) (K z (length rests)) rests) ready (gated_stands j)
+    st₀ : (j : ℕ) → Stands k.b (whole shows k ++ (looks j ++ plain (Gate k.t false) ∷ [])) (known_with false (length rests)) rests
+    st₀ j = subst (λ (z : Bool). Stands k.b (whole shows k ++ (looks j ++ plain (Gate k.t z) ∷ [])) (known_with z (length rests)) rests) ready (gated_stands j)
 
-    snoc : (j : ℕ) (es : List Note) (x : Note) → (whole shows k ++ gated k.t (L j) es) ++ x ∷ [] ≡ whole shows k ++ gated k.t (L j) (es ++ x ∷ [])
-    snoc j es x = append_assoc (whole shows k) (gated k.t (L j) es) (x ∷ []) ∙ ap (λ l. whole shows k ++ l) (append_assoc (L j) (plain (Gate k.t false) ∷ es) (x ∷ []))
+    snoc : (j : ℕ) (es : List Note) (x : Note) → (whole shows k ++ gated k.t (looks j) es) ++ x ∷ [] ≡ whole shows k ++ gated k.t (looks j) (es ++ x ∷ [])
+    snoc j es x = append_assoc (whole shows k) (gated k.t (looks j) es) (x ∷ []) ∙ ap (λ l. whole shows k ++ l) (append_assoc (looks j) (plain (Gate k.t false) ∷ es) (x ∷ []))
 
     up : Note
     up = plain (Up k.t (length rests))
 
-    st₁ : (j : ℕ) → Stands k.b (whole shows k ++ gated k.t (L j) (up ∷ [])) (K false (length rests + 1)) rests
+    st₁ : (j : ℕ) → Stands k.b (whole shows k ++ gated k.t (looks j) (up ∷ [])) (known_with false (length rests + 1)) rests
     unfolding up
-    st₁ j = subst (λ hs. Stands k.b hs (K false (length rests + 1)) rests) (snoc j [] (plain (Up k.t (length rests)))) (up_stands k.b k.t (low_of shows k) _ (K false (length rests)) rests (st₀ j))
+    st₁ j = subst (λ hs. Stands k.b hs (known_with false (length rests + 1)) rests) (snoc j [] (plain (Up k.t (length rests)))) (up_stands k.b k.t (low_of shows k) _ (known_with false (length rests)) rests (st₀ j))
 
     abbrev down : Note
     down = plain (Down k.t (length rests + 1))
 
-    st₂ : (j : ℕ) → Stands k.b (whole shows k ++ gated k.t (L j) (plain (Up k.t (length rests)) ∷ down ∷ [])) (K false (length rests)) rests
+    st₂ : (j : ℕ) → Stands k.b (whole shows k ++ gated k.t (looks j) (plain (Up k.t (length rests)) ∷ down ∷ [])) (known_with false (length rests)) rests
     unfolding up st₁
     st₂ j =
-        let s = down_stands k.b k.t (low_of shows k) _ (K false (length rests + 1)) rests (st₁ j) (omega arith) in
+        let s = down_stands k.b k.t (low_of shows k) _ (known_with false (length rests + 1)) rests (st₁ j) (omega arith) in
         let back : length rests + 1 - 1 ≡ length rests = omega arith in
-        subst (λ hs. Stands k.b hs (K false (length rests)) rests) (snoc j (up ∷ []) down) (subst (λ (c : ℕ). Stands k.b ((whole shows k ++ gated k.t (L j) (up ∷ [])) ++ down ∷ []) (K false c) rests) back s)
+        subst (λ hs. Stands k.b hs (known_with false (length rests)) rests) (snoc j (up ∷ []) down) (subst (λ (c : ℕ). Stands k.b ((whole shows k ++ gated k.t (looks j) (up ∷ [])) ++ down ∷ []) (known_with false c) rests) back s)
 
-    pool_full : (n : SessionNo) (v : Shown) (d2 : DeskView) (q c : ℕ) → IsFirstVacant k.t k.b.threads rests q → c ≡ length rests → ((x : ℕ) × (k.b.rules.max ≡ Some x) × (x ≤ length rests)) → d2 ≡ adds_notes k.d1 (gated k.t (L (q + 1)) (plain (Up k.t (length rests)) ∷ down ∷ [])) → Refused shows k d2 n v (PoolFull c)
+    pool_full : (n : SessionNo) (v : Shown) (d2 : DeskView) (q c : ℕ) → IsFirstVacant k.t k.b.threads rests q → c ≡ length rests → ((x : ℕ) × (k.b.rules.max ≡ Some x) × (x ≤ length rests)) → d2 ≡ adds_notes k.d1 (gated k.t (looks (q + 1)) (plain (Up k.t (length rests)) ∷ down ∷ [])) → Refused shows k d2 n v (PoolFull c)
     pool_full n v d2 q c first counted limit wrote =
         let es : List Note = plain (Up k.t (length rests)) ∷ down ∷ [] in
-        let ys : List Note = gated k.t (L (q + 1)) es in
+        let ys : List Note = gated k.t (looks (q + 1)) es in
         let low = first.inside in
-        let by = all_by-append k.t (L (q + 1)) (plain (Gate k.t false) ∷ es) (looks_by k.t (L (q + 1)) (looked (q + 1))) (refl, (refl, (refl, tt))) in
-        let same : K false (length rests) ≡ known_of shows k.rows = ap (λ z. K z (length rests)) (sym ready) in
+        let by = all_by-append k.t (looks (q + 1)) (plain (Gate k.t false) ∷ es) (looks_by k.t (looks (q + 1)) (looked (q + 1))) (refl, (refl, (refl, tt))) in
+        let same : known_with false (length rests) ≡ known_of shows k.rows = ap (λ z. known_with z (length rests)) (sym ready) in
         let after = as_was ys (subst (λ (z : Known). Stands k.b (whole shows k ++ ys) z rests) same (st₂ (q + 1))) in
         let P : ℕ → Type 0 = λ i. Refused shows k d2 n v (PoolFull i) in
         let base : P (length rests) = record {
           go = record { ys = ys; wrote = wrote; all = by; after = after };
-          plainly = no_drain-append (L (q + 1)) _ (looks_no_drain k.t (L (q + 1)) (looked (q + 1))) (tt, (tt, (tt, tt)));
-          totals = totals_from-looks k.t (L (q + 1)) _ k.totals (looked (q + 1));
-          opens = no_open (L (q + 1)) _ (looked (q + 1));
-          marks = marks_after_looks k.t (L (q + 1)) _ (looked (q + 1));
-          few = let e = length-looks_run k.t k.b.threads rests 0 (q + 1) in omega (arith, length-append (L (q + 1)) (plain (Gate k.t false) ∷ es));
+          plainly = no_drain-append (looks (q + 1)) _ (looks_no_drain k.t (looks (q + 1)) (looked (q + 1))) (tt, (tt, (tt, tt)));
+          totals = totals_from-looks k.t (looks (q + 1)) _ k.totals (looked (q + 1));
+          opens = no_open (looks (q + 1)) _ (looked (q + 1));
+          marks = marks_after_looks k.t (looks (q + 1)) _ (looked (q + 1));
+          few = let e = length-looks_run k.t k.b.threads rests 0 (q + 1) in omega (arith, length-append (looks (q + 1)) (plain (Gate k.t false) ∷ es));
           even = with_looks_even (q + 1) _ refl;
-          refuses = λ d3 back. (shares, keeps, record { looks = L (q + 1); place = place_of k.t.0 q; down = length rests + 1; looked = looked (q + 1); found = finds_vacant q first; limit = limit; makes = calls_of shows k d2 ys wrote d3 back by k.rows after (with_looks_even (q + 1) _ refl) });
+          refuses = λ d3 back. (shares, keeps, record { looks = looks (q + 1); place = place_of k.t.0 q; down = length rests + 1; looked = looked (q + 1); found = finds_vacant q first; limit = limit; makes = calls_of shows k d2 ys wrote d3 back by k.rows after (with_looks_even (q + 1) _ refl) });
         } in
         subst P (sym counted) base
 
@@ -288,20 +288,20 @@ module _ {V : Type 0} (shows : V → Shown) (k : Start shows) (shares : k.b.rule
       es = plain (Up k.t (length rests)) ∷ x ∷ plain (Gate k.t false) ∷ []
 
       abbrev pub park_notes : List Note
-      park_notes = gated k.t (L j) es
+      park_notes = gated k.t (looks j) es
 
       abbrev ys₁ : List Note
-      ys₁ = gated k.t (L j) (plain (Up k.t (length rests)) ∷ [])
+      ys₁ = gated k.t (looks j) (plain (Up k.t (length rests)) ∷ [])
 
-      s₁ : Stands k.b (whole shows k ++ ys₁) (K false (length rests + 1)) rests
+      s₁ : Stands k.b (whole shows k ++ ys₁) (known_with false (length rests + 1)) rests
       unfolding up
       s₁ = st₁ j
 
       by₁ : AllBy k.t ys₁
-      by₁ = all_by-append k.t (L j) _ (looks_by k.t (L j) (looked j)) (refl, (refl, tt))
+      by₁ = all_by-append k.t (looks j) _ (looks_by k.t (looks j) (looked j)) (refl, (refl, tt))
 
       has₁ : Has (k.d0.view.mine ++ ys₁) n v.face.id.0 (v.face.uses - 1)
-      has₁ = has_kept k.d0.view.mine (L j) (plain (Gate k.t false) ∷ plain (Up k.t (length rests)) ∷ []) k.t n v.face.id.0 (v.face.uses - 1) (looked j) refl can.has
+      has₁ = has_kept k.d0.view.mine (looks j) (plain (Gate k.t false) ∷ plain (Up k.t (length rests)) ∷ []) k.t n v.face.id.0 (v.face.uses - 1) (looked j) refl can.has
 
       with : ((table_after (whole shows k ++ ys₁)).conns v.face.id.0 ≡ HeldBy k.t n) × ((table_after (whole shows k ++ ys₁)).uses v.face.id.0 ≡ v.face.uses - 1)
       with = has_with (record { about = about k.b k.t k.d0; seen = whole shows k ++ ys₁; mine = k.d0.view.mine ++ ys₁; passed = None }) n v.face.id.0 (v.face.uses - 1) (one_with shows k ys₁ by₁ s₁.right) has₁
@@ -309,30 +309,30 @@ module _ {V : Type 0} (shows : V → Shown) (k : Start shows) (shares : k.b.rule
       vacant : spot_in rests (spot_no at) ≡ Vacant
       vacant = subst (λ (pl : PlaceNo). spot_in rests (spot_no pl) ≡ Vacant) (own q first.inside) first.vacant
 
-      s₂ : Stands k.b ((whole shows k ++ ys₁) ++ x ∷ []) (K false (length rests + 1)) (rests ++ r ∷ [])
-      s₂ = park_stands k.b k.t (low_of shows k) (whole shows k ++ ys₁) (K false (length rests + 1)) rests s₁ n at v can.session first.inside refl vacant can.server with.0 with.1 can.used most shares limit
+      s₂ : Stands k.b ((whole shows k ++ ys₁) ++ x ∷ []) (known_with false (length rests + 1)) (rests ++ r ∷ [])
+      s₂ = park_stands k.b k.t (low_of shows k) (whole shows k ++ ys₁) (known_with false (length rests + 1)) rests s₁ n at v can.session first.inside refl vacant can.server with.0 with.1 can.used most shares limit
 
-      s₃ : Stands k.b (whole shows k ++ park_notes) (K false (length (rests ++ r ∷ []))) (rests ++ r ∷ [])
+      s₃ : Stands k.b (whole shows k ++ park_notes) (known_with false (length (rests ++ r ∷ []))) (rests ++ r ∷ [])
       s₃ =
-          let g = gate_stands k.b k.t (low_of shows k) ((whole shows k ++ ys₁) ++ x ∷ []) (K false (length rests + 1)) (rests ++ r ∷ []) s₂ in
+          let g = gate_stands k.b k.t (low_of shows k) ((whole shows k ++ ys₁) ++ x ∷ []) (known_with false (length rests + 1)) (rests ++ r ∷ []) s₂ in
           let c : length rests + 1 ≡ length (rests ++ r ∷ []) = omega (arith, length-append rests (r ∷ [])) in
           let e : ((whole shows k ++ ys₁) ++ x ∷ []) ++ plain (Gate k.t false) ∷ [] ≡ whole shows k ++ park_notes = ap (λ l. l ++ plain (Gate k.t false) ∷ []) (snoc j (plain (Up k.t (length rests)) ∷ []) x) ∙ snoc j (plain (Up k.t (length rests)) ∷ x ∷ []) (plain (Gate k.t false)) in
-          subst (λ hs. Stands k.b hs (K false (length (rests ++ r ∷ []))) (rests ++ r ∷ [])) e (subst (λ (i : ℕ). Stands k.b (((whole shows k ++ ys₁) ++ x ∷ []) ++ plain (Gate k.t false) ∷ []) (K false i) (rests ++ r ∷ [])) c g)
+          subst (λ hs. Stands k.b hs (known_with false (length (rests ++ r ∷ []))) (rests ++ r ∷ [])) e (subst (λ (i : ℕ). Stands k.b (((whole shows k ++ ys₁) ++ x ∷ []) ++ plain (Gate k.t false) ∷ []) (known_with false i) (rests ++ r ∷ [])) c g)
 
       pub park_after : IsAfter shows k.b (whole shows k ++ park_notes) rows'
-      park_after = let ro = rooms in after_as shows k.b (whole shows k ++ park_notes) (K false (length (rests ++ r ∷ []))) (rests ++ r ∷ []) rows' s₃ next (gate ∙ ready) refl round put (omega arith)
+      park_after = let ro = rooms in after_as shows k.b (whole shows k ++ park_notes) (known_with false (length (rests ++ r ∷ []))) (rests ++ r ∷ []) rows' s₃ next (gate ∙ ready) refl round put (omega arith)
 
       pub park_by : AllBy k.t park_notes
-      park_by = all_by-append k.t (L j) _ (looks_by k.t (L j) (looked j)) (refl, (refl, (refl, (refl, tt))))
+      park_by = all_by-append k.t (looks j) _ (looks_by k.t (looks j) (looked j)) (refl, (refl, (refl, (refl, tt))))
 
       pub park_keeps : (d2 d3 : DeskView) → d2 ≡ adds_notes k.d1 park_notes → d3 ≡ given_back d2 → KeepsAll k.b k.t d3 k.p (totals_after k.totals (Park k.t n v.face.id at v.face.uses)) k.opened
-      park_keeps d2 d3 wrote back = keeps_on shows k d2 park_notes wrote d3 back park_by rows' park_after _ (no_drain-append (L j) _ (looks_no_drain k.t (L j) (looked j)) (tt, (tt, (tt, (tt, tt))))) (sym (totals_from-looks k.t (L j) _ k.totals (looked j))) (no_open (L j) _ (looked j))
+      park_keeps d2 d3 wrote back = keeps_on shows k d2 park_notes wrote d3 back park_by rows' park_after _ (no_drain-append (looks j) _ (looks_no_drain k.t (looks j) (looked j)) (tt, (tt, (tt, (tt, tt))))) (sym (totals_from-looks k.t (looks j) _ k.totals (looked j))) (no_open (looks j) _ (looked j))
 
       pub park_parks : (d2 d3 : DeskView) → d2 ≡ adds_notes k.d1 park_notes → d3 ≡ given_back d2 → Parks (history k.b k.t k.p k.d0) (history k.b k.t k.p d3) n at v
       park_parks d2 d3 wrote back = record {
         mode = shares;
         keeps = keeps;
-        looks = L j;
+        looks = looks j;
         count = length rests;
         tail = plain (Gate k.t false) ∷ [];
         looked = looked j;
@@ -343,8 +343,8 @@ module _ {V : Type 0} (shows : V → Shown) (k : Start shows) (shares : k.b.rule
       }
 
       pub park_grows : (d2 d3 : DeskView) → d2 ≡ adds_notes k.d1 park_notes → d3 ≡ given_back d2 → Grows (history k.b k.t k.p k.d0) (history k.b k.t k.p d3) (Park k.t n v.face.id at v.face.uses ∷ [])
-      park_grows d2 d3 wrote back = grows_of shows k d2 park_notes wrote d3 back park_by rows' park_after (with_looks_even j _ refl) k.p _ (sym (marks_parked (L j) k.t n at v (length rests) (plain (Gate k.t false) ∷ []) (looked j) (inl refl)))
-          (let low = first.inside in let e = length-looks_run k.t k.b.threads rests 0 j in omega (arith, length-append (L j) (plain (Gate k.t false) ∷ es)))
+      park_grows d2 d3 wrote back = grows_of shows k d2 park_notes wrote d3 back park_by rows' park_after (with_looks_even j _ refl) k.p _ (sym (marks_parked (looks j) k.t n at v (length rests) (plain (Gate k.t false) ∷ []) (looked j) (inl refl)))
+          (let low = first.inside in let e = length-looks_run k.t k.b.threads rests 0 j in omega (arith, length-append (looks j) (plain (Gate k.t false) ∷ es)))
 
       -- the notes of a park, as the code writes them
       pub park_wrote : (a d2 d3 : DeskView) (place : PlaceNo) (f : Face) → place ≡ at → f ≡ v.face → a ≡ adds_notes k.d1 ys₁ → d2 ≡ adds_note a (record { entry = Park k.t n f.id place f.uses; what = Some v.what }) → d3 ≡ adds_note d2 (plain (Gate k.t k.rows.draining)) → d3 ≡ adds_notes k.d1 park_notes
@@ -354,7 +354,7 @@ module _ {V : Type 0} (shows : V → Shown) (k : Start shows) (shares : k.b.rule
           let shut' : d3 ≡ adds_note d2 (plain (Gate k.t false)) = shut ∙ ap (λ (z : Bool). adds_note d2 (plain (Gate k.t z))) ready in
           let one = notes_more k.d1 a d2 ys₁ x ad wrote' in
           let two = notes_more k.d1 d2 d3 (ys₁ ++ x ∷ []) (plain (Gate k.t false)) one shut' in
-          two ∙ ap (adds_notes k.d1) (ap (λ l. l ++ plain (Gate k.t false) ∷ []) (append_assoc (L j) (plain (Gate k.t false) ∷ plain (Up k.t (length rests)) ∷ []) (x ∷ [])) ∙ append_assoc (L j) (plain (Gate k.t false) ∷ plain (Up k.t (length rests)) ∷ x ∷ []) (plain (Gate k.t false) ∷ []))
+          two ∙ ap (adds_notes k.d1) (ap (λ l. l ++ plain (Gate k.t false) ∷ []) (append_assoc (looks j) (plain (Gate k.t false) ∷ plain (Up k.t (length rests)) ∷ []) (x ∷ [])) ∙ append_assoc (looks j) (plain (Gate k.t false) ∷ plain (Up k.t (length rests)) ∷ x ∷ []) (plain (Gate k.t false) ∷ []))
 
   pub refused : (n : SessionNo) (v : Shown) (d2 : DeskView) (why : NoPark) → Refuses k.d1 d2 k.t k.b.threads rests k.rows.draining k.b.rules.max why → Refused shows k d2 n v why
   refused n v d2 Never r = absurd r

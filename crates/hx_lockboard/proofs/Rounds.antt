@@ -25,11 +25,11 @@ module _ {V : Type 0} (shows : V → Shown) (k : Start shows) (now : Millis) (r 
   abbrev o : ℕ
   o = k.rows.round
 
-  abbrev K : ℕ → Known
-  K j = record { next = k.rows.next; draining = k.rows.draining; count = length rests; round = j }
+  abbrev known_at : ℕ → Known
+  known_at j = record { next = k.rows.next; draining = k.rows.draining; count = length rests; round = j }
 
-  raised : (j : ℕ) → max r o ≡ j → Stands k.b (whole shows k ++ plain (Round k.t r o) ∷ []) (K j) rests
-  raised j e = subst (λ (i : ℕ). Stands k.b (whole shows k ++ plain (Round k.t r o) ∷ []) (K i) rests) e (round_stands k.b k.t (low_of shows k) (whole shows k) (K o) rests (after_of shows k).stands r)
+  raised : (j : ℕ) → max r o ≡ j → Stands k.b (whole shows k ++ plain (Round k.t r o) ∷ []) (known_at j) rests
+  raised j e = subst (λ (i : ℕ). Stands k.b (whole shows k ++ plain (Round k.t r o) ∷ []) (known_at i) rests) e (round_stands k.b k.t (low_of shows k) (whole shows k) (known_at o) rests (after_of shows k).stands r)
 
   abbrev one : List Note
   one = plain (Round k.t r o) ∷ []
@@ -51,8 +51,8 @@ module _ {V : Type 0} (shows : V → Shown) (k : Start shows) (now : Millis) (r 
 
     pub early_after : IsAfter shows k.b (whole shows k ++ two) rows'
     early_after =
-        let st = count_stands k.b k.t (low_of shows k) (whole shows k ++ one) (K r) rests (raised r (omega arith)) in
-        let st' : Stands k.b (whole shows k ++ two) (K r) rests = subst (λ hs. Stands k.b hs (K r) rests) (append_assoc (whole shows k) one (plain (Count k.t c) ∷ [])) (subst (λ (j : ℕ). Stands k.b ((whole shows k ++ one) ++ plain (Count k.t j) ∷ []) (K r) rests) (sym counted) st) in
+        let st = count_stands k.b k.t (low_of shows k) (whole shows k ++ one) (known_at r) rests (raised r (omega arith)) in
+        let st' : Stands k.b (whole shows k ++ two) (known_at r) rests = subst (λ hs. Stands k.b hs (known_at r) rests) (append_assoc (whole shows k) one (plain (Count k.t c) ∷ [])) (subst (λ (j : ℕ). Stands k.b ((whole shows k ++ one) ++ plain (Count k.t j) ∷ []) (known_at r) rests) (sym counted) st) in
         let base : IsAfter shows k.b (whole shows k ++ two) (record k.rows { round = r }) = record { stands = st'; roomy = (after_of shows k).roomy } in
         subst (IsAfter shows k.b (whole shows k ++ two)) (sym same) base
 

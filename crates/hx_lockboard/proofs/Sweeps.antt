@@ -81,47 +81,47 @@ module _ {V : Type 0} (shows : V → Shown) (k : Start shows) (lead : List Note)
   abbrev rests : List Rested
   rests = rests_of shows k.rows.resting.items
 
-  abbrev L : ℕ → List Note
-  L c = looks_run k.t k.b.threads rests from c
+  abbrev run : ℕ → List Note
+  run c = looks_run k.t k.b.threads rests from c
 
-  pub looked : (c : ℕ) → AllLooks k.t (L c)
+  pub looked : (c : ℕ) → AllLooks k.t (run c)
   looked c = run_looks k.t k.b.threads rests from c
 
-  pub st : (c : ℕ) → Stands k.b (whole shows k ++ (lead ++ L c)) (known_of shows k.rows) rests
-  st c = subst (λ hs. Stands k.b hs (known_of shows k.rows) rests) (append_assoc (whole shows k) lead (L c)) (run_stands k.b k.t (low_of shows k) (whole shows k ++ lead) (known_of shows k.rows) rests lead_st from c)
+  pub st : (c : ℕ) → Stands k.b (whole shows k ++ (lead ++ run c)) (known_of shows k.rows) rests
+  st c = subst (λ hs. Stands k.b hs (known_of shows k.rows) rests) (append_assoc (whole shows k) lead (run c)) (run_stands k.b k.t (low_of shows k) (whole shows k ++ lead) (known_of shows k.rows) rests lead_st from c)
 
   -- nothing was taken
-  pub passed_after : (c : ℕ) → rows'.resting.items ≡ k.rows.resting.items → IsAfter shows k.b (whole shows k ++ (lead ++ L c)) rows'
-  passed_after c same = let r = (after_of shows k).roomy in after_as shows k.b (whole shows k ++ (lead ++ L c)) (known_of shows k.rows) rests rows' (st c) next gate refl round (ap (rests_of shows) same) (omega arith)
+  pub passed_after : (c : ℕ) → rows'.resting.items ≡ k.rows.resting.items → IsAfter shows k.b (whole shows k ++ (lead ++ run c)) rows'
+  passed_after c same = let r = (after_of shows k).roomy in after_as shows k.b (whole shows k ++ (lead ++ run c)) (known_of shows k.rows) rests rows' (st c) next gate refl round (ap (rests_of shows) same) (omega arith)
 
-  pub passed_by : (c : ℕ) → AllBy k.t (lead ++ L c)
-  passed_by c = all_by-append k.t lead (L c) lead_by (looks_by k.t (L c) (looked c))
+  pub passed_by : (c : ℕ) → AllBy k.t (lead ++ run c)
+  passed_by c = all_by-append k.t lead (run c) lead_by (looks_by k.t (run c) (looked c))
 
-  pub passed_wrote : (c : ℕ) → Ran d1 d2 k.t k.b.threads may rests from c → d2 ≡ adds_notes k.d1 (lead ++ L c)
-  passed_wrote c ran = notes_join k.d1 d1 d2 lead (L c) led ran.desk
+  pub passed_wrote : (c : ℕ) → Ran d1 d2 k.t k.b.threads may rests from c → d2 ≡ adds_notes k.d1 (lead ++ run c)
+  passed_wrote c ran = notes_join k.d1 d1 d2 lead (run c) led ran.desk
 
   module _ (c : ℕ) (x : Rested) (sw : Swept d1 d2 rests (rests_of shows rows'.resting.items) k.t k.b.threads n first may from c x) (fine : n.0 ≢ 0 → allows k.b.rules.mode first x.shown.face.uses ≡ true) where
     abbrev pub swept_notes : List Note
-    swept_notes = lead ++ (L c ++ taking k.t n first x.place x.shown.face (length rests))
+    swept_notes = lead ++ (run c ++ taking k.t n first x.place x.shown.face (length rests))
 
     pub swept_wrote : d2 ≡ adds_notes k.d1 swept_notes
-    swept_wrote = notes_join k.d1 d1 d2 lead (L c ++ taking k.t n first x.place x.shown.face (length rests)) led sw.desk
+    swept_wrote = notes_join k.d1 d1 d2 lead (run c ++ taking k.t n first x.place x.shown.face (length rests)) led sw.desk
 
     pub swept_after : IsAfter shows k.b (whole shows k ++ swept_notes) rows'
-    swept_after = took_after shows k lead (L c) n first x sw.before sw.behind rows' (st c) sw.parts sw.left_is next gate round room fine (looked c) lead_by lead_even
+    swept_after = took_after shows k lead (run c) n first x sw.before sw.behind rows' (st c) sw.parts sw.left_is next gate round room fine (looked c) lead_by lead_even
 
     pub swept_by : AllBy k.t swept_notes
-    swept_by = took_by shows k lead (L c) n first x sw.before sw.behind rows' (st c) sw.parts sw.left_is next gate round room fine (looked c) lead_by lead_even
+    swept_by = took_by shows k lead (run c) n first x sw.before sw.behind rows' (st c) sw.parts sw.left_is next gate round room fine (looked c) lead_by lead_even
 
     abbrev pub swept_takes : (d3 : DeskView) (q : Option ℕ) → d3 ≡ given_back d2 → Takes (history k.b k.t k.p k.d0) (history k.b k.t q d3) lead n first x.place x.shown
-    swept_takes d3 q back = took_takes shows k lead (L c) n first x sw.before sw.behind rows' (st c) sw.parts sw.left_is next gate round room fine (looked c) lead_by lead_even d2 d3 q swept_wrote back
+    swept_takes d3 q back = took_takes shows k lead (run c) n first x sw.before sw.behind rows' (st c) sw.parts sw.left_is next gate round room fine (looked c) lead_by lead_even d2 d3 q swept_wrote back
 
     pub place_is : x.place ≡ nth_place k.t k.b.threads (from + c)
     place_is = spot_no_inj x.place (nth_place k.t k.b.threads (from + c)) (in_row k.b.threads sw.before x sw.behind (subst (AreApart k.b.threads) sw.parts (after_of shows k).stands.apart)).1 (nth_inside k.t k.b.threads (from + c)) sw.at
 
   pub sweep_goes : (taken : Option (ℕ × Rest V)) (cap : ℕ) → MatchOption taken (Ran d1 d2 k.t k.b.threads may rests from (cap - from) × (rows'.resting.items ≡ k.rows.resting.items))
       (λ r. (from + r.0 < cap) × Swept d1 d2 rests (rests_of shows rows'.resting.items) k.t k.b.threads n first may from r.0 (record { place = r.1.place; shown = shows r.1.v })) → ((u : ℕ) → may u ≡ true → n.0 ≢ 0 → allows k.b.rules.mode first u ≡ true) → Goes shows k d2 rows'
-  sweep_goes None cap m fine = record { ys = lead ++ L (cap - from); wrote = passed_wrote (cap - from) m.0; all = passed_by (cap - from); after = passed_after (cap - from) m.1 }
+  sweep_goes None cap m fine = record { ys = lead ++ run (cap - from); wrote = passed_wrote (cap - from) m.0; all = passed_by (cap - from); after = passed_after (cap - from) m.1 }
   sweep_goes (Some r) cap m fine =
       let x : Rested = record { place = r.1.place; shown = shows r.1.v } in
       let f = fine x.shown.face.uses m.1.good in
@@ -197,24 +197,24 @@ module _ {V : Type 0} (shows : V → Shown) (k : Start shows) (from : ℕ) (d2 d
 
   -- a purge that found nothing
   module _ (ran : Ran k.d1 d2 k.t k.b.threads every resting from (64 * k.b.threads - from)) (same : rows'.resting.items ≡ k.rows.resting.items) (low : from ≤ 64 * k.b.threads) where
-    abbrev cc' : ℕ
-    cc' = 64 * k.b.threads - from
+    abbrev span : ℕ
+    span = 64 * k.b.threads - from
 
-    wrote' : d2 ≡ adds_notes k.d1 (looks cc')
-    wrote' = passed_wrote shows k [] tt refl no_lead caretaker false every from k.d1 d2 (adds_none k.d1) rows' next gate round room cc' ran
+    passed_all : d2 ≡ adds_notes k.d1 (looks span)
+    passed_all = passed_wrote shows k [] tt refl no_lead caretaker false every from k.d1 d2 (adds_none k.d1) rows' next gate round room span ran
 
-    after' : IsAfter shows k.b (whole shows k ++ looks cc') rows'
-    after' = passed_after shows k [] tt refl no_lead caretaker false every from k.d1 d2 (adds_none k.d1) rows' next gate round room cc' same
+    unchanged : IsAfter shows k.b (whole shows k ++ looks span) rows'
+    unchanged = passed_after shows k [] tt refl no_lead caretaker false every from k.d1 d2 (adds_none k.d1) rows' next gate round room span same
 
-    by' : AllBy k.t (looks cc')
-    by' = looks_by k.t (looks cc') (run_looks k.t k.b.threads resting from cc')
+    by_self : AllBy k.t (looks span)
+    by_self = looks_by k.t (looks span) (run_looks k.t k.b.threads resting from span)
 
-    no_opens' : (xs : List Note) → AllLooks k.t xs → opens_of xs ≡ 0
-    no_opens' [] l = refl
-    no_opens' (x ∷ xs) l = ap (λ (y : Note). opens_of (y ∷ xs)) l.0.2 ∙ no_opens' xs l.1
+    opens_none : (xs : List Note) → AllLooks k.t xs → opens_of xs ≡ 0
+    opens_none [] l = refl
+    opens_none (x ∷ xs) l = ap (λ (y : Note). opens_of (y ∷ xs)) l.0.2 ∙ opens_none xs l.1
 
     pub purge_keeps : KeepsAll k.b k.t d3 k.p k.totals k.opened
-    purge_keeps = keeps_on shows k d2 (looks cc') wrote' d3 back by' rows' after' k.totals (looks_no_drain k.t (looks cc') (run_looks k.t k.b.threads resting from cc')) (sym (looks_totals k.t (looks cc') k.totals (run_looks k.t k.b.threads resting from cc'))) (no_opens' (looks cc') (run_looks k.t k.b.threads resting from cc'))
+    purge_keeps = keeps_on shows k d2 (looks span) passed_all d3 back by_self rows' unchanged k.totals (looks_no_drain k.t (looks span) (run_looks k.t k.b.threads resting from span)) (sym (looks_totals k.t (looks span) k.totals (run_looks k.t k.b.threads resting from span))) (opens_none (looks span) (run_looks k.t k.b.threads resting from span))
 
     pub purge_none : (q r : Quota) → q.left ≢ 0 → q.seen ≡ from → r.left ≡ q.left → r.seen ≡ 64 * k.b.threads → PurgesNone (history k.b k.t k.p k.d0) (history k.b k.t k.p d3) q r
     purge_none q r some at left seen = inr (
@@ -222,15 +222,15 @@ module _ {V : Type 0} (shows : V → Shown) (k : Start shows) (from : ℕ) (d2 d
       record {
         left = left;
         seen = seen;
-        looks = looks cc';
-        looked = run_looks k.t k.b.threads resting from cc';
-        none = λ i h j. unavailable_at k.t k.b.threads every resting from cc' ran.none i (omega arith) (omega arith);
-        makes = calls_of shows k d2 (looks cc') wrote' d3 back by' rows' after' (looks_even k.t (looks cc') (run_looks k.t k.b.threads resting from cc'));
+        looks = looks span;
+        looked = run_looks k.t k.b.threads resting from span;
+        none = λ i h j. unavailable_at k.t k.b.threads every resting from span ran.none i (omega arith) (omega arith);
+        makes = calls_of shows k d2 (looks span) passed_all d3 back by_self rows' unchanged (looks_even k.t (looks span) (run_looks k.t k.b.threads resting from span));
       },
     )
 
     pub purge_grows : Grows (history k.b k.t k.p k.d0) (history k.b k.t k.p d3) []
-    purge_grows = grows_of shows k d2 (looks cc') wrote' d3 back by' rows' after' (looks_even k.t (looks cc') (run_looks k.t k.b.threads resting from cc')) k.p [] (sym (looks_marks k.t (looks cc') (run_looks k.t k.b.threads resting from cc'))) (let f = few_of shows k in let e = length-looks_run k.t k.b.threads resting from cc' in omega arith)
+    purge_grows = grows_of shows k d2 (looks span) passed_all d3 back by_self rows' unchanged (looks_even k.t (looks span) (run_looks k.t k.b.threads resting from span)) k.p [] (sym (looks_marks k.t (looks span) (run_looks k.t k.b.threads resting from span))) (let f = few_of shows k in let e = length-looks_run k.t k.b.threads resting from span in omega arith)
 
   -- a value was taken
   module _ (c : ℕ) (inside : from + c < 64 * k.b.threads) (x : Rested) (sw : Swept k.d1 d2 resting (rests_of shows rows'.resting.items) k.t k.b.threads caretaker false every from c x) where

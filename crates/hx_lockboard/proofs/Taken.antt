@@ -70,16 +70,16 @@ module _ {V : Type 0} (shows : V → Shown) (k : Start shows) (lead looks : List
   abbrev pub took_notes : List Note
   took_notes = lead ++ (looks ++ taking k.t n first x.place x.shown.face (length rests))
 
-  abbrev L : List Note
-  L = lead ++ looks
+  abbrev before_take : List Note
+  before_take = lead ++ looks
 
-  pub shift : H ++ took_notes ≡ (H ++ L) ++ taking k.t n first x.place x.shown.face (length rests)
-  shift = ap (λ l. H ++ l) (sym (append_assoc lead looks (taking k.t n first x.place x.shown.face (length rests)))) ∙ sym (append_assoc H L (taking k.t n first x.place x.shown.face (length rests)))
+  pub shift : H ++ took_notes ≡ (H ++ before_take) ++ taking k.t n first x.place x.shown.face (length rests)
+  shift = ap (λ l. H ++ l) (sym (append_assoc lead looks (taking k.t n first x.place x.shown.face (length rests)))) ∙ sym (append_assoc H before_take (taking k.t n first x.place x.shown.face (length rests)))
 
   gone : Stands k.b (H ++ took_notes) (record { next = k.rows.next; draining = k.rows.draining; count = length (before ++ behind); round = k.rows.round }) (before ++ behind)
   gone =
-      let P : List Rested → Type 0 = λ l. Stands k.b (H ++ L) (record { next = k.rows.next; draining = k.rows.draining; count = length l; round = k.rows.round }) l → Stands k.b ((H ++ L) ++ taking k.t n first x.place x.shown.face (length l)) (record { next = k.rows.next; draining = k.rows.draining; count = length (before ++ behind); round = k.rows.round }) (before ++ behind) in
-      let go : P (before ++ x ∷ behind) = λ s. take_stands k.b k.t (low_of shows k) (H ++ L) (record { next = k.rows.next; draining = k.rows.draining; count = length (before ++ x ∷ behind); round = k.rows.round }) before x behind s refl n first may in
+      let P : List Rested → Type 0 = λ l. Stands k.b (H ++ before_take) (record { next = k.rows.next; draining = k.rows.draining; count = length l; round = k.rows.round }) l → Stands k.b ((H ++ before_take) ++ taking k.t n first x.place x.shown.face (length l)) (record { next = k.rows.next; draining = k.rows.draining; count = length (before ++ behind); round = k.rows.round }) (before ++ behind) in
+      let go : P (before ++ x ∷ behind) = λ s. take_stands k.b k.t (low_of shows k) (H ++ before_take) (record { next = k.rows.next; draining = k.rows.draining; count = length (before ++ x ∷ behind); round = k.rows.round }) before x behind s refl n first may in
       subst (λ hs. Stands k.b hs (record { next = k.rows.next; draining = k.rows.draining; count = length (before ++ behind); round = k.rows.round }) (before ++ behind)) (sym shift) (subst P (sym parts) go st)
 
   pub took_after : IsAfter shows k.b (H ++ took_notes) rows'
@@ -90,18 +90,18 @@ module _ {V : Type 0} (shows : V → Shown) (k : Start shows) (lead looks : List
 
   abbrev pub took_takes : (d2 d3 : DeskView) (q : Option ℕ) → d2 ≡ adds_notes k.d1 took_notes → d3 ≡ given_back d2 → Takes (history k.b k.t k.p k.d0) (history k.b k.t q d3) lead n first x.place x.shown
   took_takes d2 d3 q wrote back =
-      let kept = kept_mid k.b.threads (H ++ L) k.b.server before x behind (subst (λ l. AreKept (H ++ L) k.b.server l) parts st.kept) in
+      let kept = kept_mid k.b.threads (H ++ before_take) k.b.server before x behind (subst (λ l. AreKept (H ++ before_take) k.b.server l) parts st.kept) in
       let is = desk_of shows k d2 took_notes wrote d3 back took_by rows' took_after in
-      let seen : H ++ took_notes ≡ (k.d0.view.seen ++ (k.g.between ++ L)) ++ taking k.t n first x.place x.shown.face (length rests) = shift ∙ ap (λ l. l ++ taking k.t n first x.place x.shown.face (length rests)) (append_assoc k.d0.view.seen k.g.between L) in record {
+      let seen : H ++ took_notes ≡ (k.d0.view.seen ++ (k.g.between ++ before_take)) ++ taking k.t n first x.place x.shown.face (length rests) = shift ∙ ap (λ l. l ++ taking k.t n first x.place x.shown.face (length rests)) (append_assoc k.d0.view.seen k.g.between before_take) in record {
         looks = looks;
         count = length rests;
         looked = looked;
         makes = makes_of shows k d2 took_notes wrote d3 back took_by rows' took_after (even-append lead (looks ++ taking k.t n first x.place x.shown.face (length rests)) lead_even (took_even looks k.t n first x.place x.shown.face (length rests) looked)) q;
         server = kept.0;
-        between = k.g.between ++ L;
+        between = k.g.between ++ before_take;
         behind = plain (Free k.t x.place) ∷ plain (Down k.t (length rests)) ∷ [];
         seen = ap (λ (d : DeskView). d.view.seen) is ∙ seen;
-        what = ap (λ hs. what_of hs x.shown.face.id.0) (sym (append_assoc k.d0.view.seen k.g.between L)) ∙ kept.1;
+        what = ap (λ hs. what_of hs x.shown.face.id.0) (sym (append_assoc k.d0.view.seen k.g.between before_take)) ∙ kept.1;
       }
 
 -- the entry that the code makes of the value that it took

@@ -9,6 +9,7 @@ use Rattle.hx_lockboard.specs.Views.{worker}
 use Rattle.hx_lockboard.specs.Seats.{SeatView, IsUnused}
 
 module _ {V : Type 0} where
+  -- a seat that the board cut for the thread k
   abbrev pub IsCut : Seat (Option (Rows V)) View → LockBoard V → ℕ → Type 0
   IsCut s b k = (s.table_id ≡ b.table.shared.table_id) × (s.me ≡ (worker b.terms (record { 0 = k }), []))
 

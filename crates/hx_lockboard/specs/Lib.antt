@@ -3,3 +3,4 @@ pub mod Rule
 pub mod LockDesks
 pub mod Seats
 pub mod Boards
+pub mod Telling

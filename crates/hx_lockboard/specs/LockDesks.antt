@@ -22,6 +22,7 @@ pub record Gets {V : Type 0} (shows : V → Shown) (old new : DeskView) (rows : 
   pub own : old.view.mine ≡ own_of old.view.thread (old.view.seen ++ between)
   pub after : IsAfter shows old.view.terms (old.view.seen ++ between) rows
 
+-- the token after the value went back
 abbrev pub given_back : DeskView → DeskView
 given_back d = record { board = d.board; view = settled d.view }
 

@@ -33,6 +33,7 @@ pub record Sees (log : List Note) (v : View) : Type 0 where
   pub own : v.mine ≡ own_of v.thread v.seen
   pub told : Begins log v.told
 
+-- what a seat of each role stands for: the board's own gives the next thread its seat, and a thread has one seat
 abbrev pub Knows : ℕ → List Note → (ℕ → ℕ) → ℕ → View → Role → Type 0
 Knows given log owner seat v Makes = (seat ≡ 0) × (v.thread.0 ≡ given)
 Knows given log owner seat v Works = (v.thread.0 < given) × (owner v.thread.0 ≡ seat) × Sees log v
@@ -58,6 +59,7 @@ abbrev pub Lies : {V : Type 0} → (V → Shown) → BoardTerms → State (Optio
 Lies {V} shows b s log noted None = (slice_index s.words 0 ≡ 0) × (noted ≡ length log) × ((rows : Rows V) × (s.homes ≡ some (Some rows) ∷ []) × IsAfter shows b log rows)
 Lies {V} shows b s log noted (Some j) = (slice_index s.words 0 ≡ 1) × (s.homes ≡ none ∷ []) × ((v : View) × (get_elem? s.views j ≡ some v) × Holds log noted v)
 
+-- the rule: the history, which seat each thread has, which seat has the value, and how many entries were made
 pub record Kept {V : Type 0} (shows : V → Shown) (b : BoardTerms) (s : State (Option (Rows V)) View) : Type 0 where
   pub log : List Note
   pub given : ℕ

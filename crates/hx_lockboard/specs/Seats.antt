@@ -18,9 +18,11 @@ pub record SeatView : Type 0 where
   pub history : History
   pub last : List Entry
 
+-- what no call of a seat changes
 abbrev pub about : BoardTerms → ThreadNo → DeskView → About
 about b t d = about_of b t d.board
 
+-- what a seat means, by its token
 abbrev pub history : BoardTerms → ThreadNo → Option ℕ → DeskView → History
 history b t passed d = record { about = about b t d; seen = d.view.seen; mine = d.view.mine; passed = passed }
 

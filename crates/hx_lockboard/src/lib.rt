@@ -6,8 +6,8 @@ mod board;
 mod desk;
 mod rule;
 mod seat;
-#[cfg(test)]
-mod tests;
+mod telling;
 
 pub use board::{LockBoard, lock_board};
 pub use seat::LockSeat;
+pub use telling::tell_each_other;

@@ -61,7 +61,7 @@ pub record CutAt (rests : List Rested) (i place : ℕ) : Type 0 where
   pub at : spot_no chosen.place ≡ place
   pub stands : spot_in rests place ≡ Holds chosen.shown.face
 
--- the same, and it is such
+-- the same, and a value of its use count is wanted
 pub record GoodAt (may : ℕ → Bool) (rests : List Rested) (i place : ℕ) : Type 0 where
   pub cut : CutAt rests i place
   pub good : may cut.chosen.shown.face.uses ≡ true
@@ -70,10 +70,11 @@ pub record GoodAt (may : ℕ → Bool) (rests : List Rested) (i place : ℕ) : T
 abbrev pub fits : Mode → Bool → Bool → ℕ → Bool
 fits mode first safe uses = allows mode first uses && cond safe (is_safe uses) (not (is_safe uses))
 
--- the same, and it is in the row
+-- the same, and the value is in the row
 abbrev pub fits_in : Mode → Bool → Bool → ℕ → Rested → Bool
 fits_in mode first safe row x = (x.place.row == row) && fits mode first safe x.shown.face.uses
 
+-- no value of the row fits
 abbrev pub NoneFits : Mode → Bool → Bool → ℕ → List Rested → Type 0
 NoneFits mode first safe row [] = Unit {0}
 NoneFits mode first safe row (x ∷ xs) = (fits_in mode first safe row x ≡ false) × NoneFits mode first safe row xs
@@ -141,11 +142,13 @@ pub record Admits (old new : DeskView) (t : ThreadNo) (threads : ℕ) (rests : L
   pub limit : IfSome max (λ m. length rests < m)
   pub desk : new ≡ adds_notes old (gated t (looks_run t threads rests 0 (p + 1)) (plain (Up t (length rests)) ∷ []))
 
+-- a place is vacant, and the server is draining
 pub record IsShut (old new : DeskView) (t : ThreadNo) (threads : ℕ) (rests : List Rested) : Type 0 where
   pub p : ℕ
   pub first : IsFirstVacant t threads rests p
   pub desk : new ≡ adds_notes old (looks_run t threads rests 0 (p + 1) ++ plain (Gate t true) ∷ [])
 
+-- a place is vacant, and as many rest as may, so that the count went up and down again
 pub record IsOverMax (old new : DeskView) (t : ThreadNo) (threads : ℕ) (rests : List Rested) (max : Option ℕ) (c : ℕ) : Type 0 where
   pub p : ℕ
   pub first : IsFirstVacant t threads rests p

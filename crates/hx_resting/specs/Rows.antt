@@ -21,6 +21,7 @@ pub record Rested : Type 0 where
   pub place : PlaceNo
   pub shown : Shown
 
+-- what the values of a list show, each at its place
 abbrev pub rests_of : {V : Type 0} → (V → Shown) → List (Rest V) → List Rested
 rests_of shows xs = map (λ x. record { place = x.place; shown = shows x.v }) xs
 
@@ -29,6 +30,7 @@ abbrev pub spot_in : List Rested → ℕ → Spot
 spot_in [] p = Vacant
 spot_in (x ∷ xs) p = cond (p == spot_no x.place) (Holds x.shown.face) (spot_in xs p)
 
+-- the place is in a row of a board of so many threads
 abbrev pub IsAtBoard : ℕ → PlaceNo → Type 0
 IsAtBoard threads place = (place.row < threads) × IsInRow place
 
@@ -42,11 +44,12 @@ abbrev pub AreKept : List Note → ServerNo → List Rested → Type 0
 AreKept H server [] = Unit {0}
 AreKept H server (x ∷ xs) = (x.shown.server ≡ server) × (what_of H x.shown.face.id.0 ≡ Some x.shown.what) × AreKept H server xs
 
+-- each was parked after the entry that stands at this number
 abbrev pub AreLater : List Note → ℕ → List Rested → Type 0
 AreLater H k [] = Unit {0}
 AreLater H k (x ∷ xs) = (k < last_park H x.shown.face.id.0) × AreLater H k xs
 
--- the later parked stand later
+-- what was parked later stands later
 abbrev pub AreRising : List Note → List Rested → Type 0
 AreRising H [] = Unit {0}
 AreRising H (x ∷ xs) = AreLater H (last_park H x.shown.face.id.0) xs × AreRising H xs
