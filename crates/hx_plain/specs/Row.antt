@@ -1,20 +1,17 @@
 -- Private: the values that rest in one thread's row, and what the looks through it show.
-use Rattle.std.specs.Prelude.{◌≤◌, Option, Some, IfSome, true, false, not, ◌&&◌, ◌⊎◌, zero, suc, ◌≡◌, ◌≢◌, ℕ, ◌+◌, ◌<◌, ◌==◌, Bool, cond, List, [], ◌∷◌, ◌++◌, map, length}
+use Rattle.std.specs.Prelude.{◌≤◌, Option, Some, IfSome, true, false, not, ◌⊎◌, zero, suc, ◌≡◌, ◌≢◌, ℕ, ◌+◌, ◌<◌, ◌==◌, Bool, cond, List, [], ◌∷◌, ◌++◌, map, length}
 use Rattle.hx_base.specs.declared.numbers.ThreadNo.{ThreadNo}
 use Rattle.hx_base.specs.declared.numbers.SessionNo.{SessionNo}
 use Rattle.hx_base.specs.declared.rules.Mode.{Mode}
-use Rattle.hx_base.specs.declared.rules.Mode.TheVariants as mode
-use Rattle.hx_base.specs.declared.rules.PoolRules.{PoolRules}
 use Rattle.hx_base.specs.Shown.{Shown}
 use Rattle.hx_pool.specs.declared.entries.Note.{Note}
 use Rattle.hx_pool.specs.declared.entries.Entry.TheVariants.{Look, Gate, Up, Down}
 use Rattle.hx_pool.specs.declared.refusals.NoPark.{NoPark}
-use Rattle.hx_pool.specs.declared.refusals.NoPark.TheVariants.{Never, NoneKept, RowFull, Draining, PoolFull}
+use Rattle.hx_pool.specs.declared.refusals.NoPark.TheVariants.{RowFull, Draining, PoolFull}
 use Rattle.hx_pool.specs.Table.{Spot, Vacant, Holds, found_of}
 use Rattle.hx_pool.specs.History.{plain}
-use Rattle.hx_pool.specs.Rules.{allows}
 use Rattle.hx_pool.specs.Causes.{place_of, caretaker}
-use Rattle.hx_pool.specs.Taking.{is_safe, taking}
+use Rattle.hx_pool.specs.Taking.{taking}
 use Rattle.hx_pool.specs.Parking.{gated}
 use Rattle.hx_resting.specs.Row.{fits}
 use Rattle.hx_plain.specs.declared.rest.Rest.{Rest}
