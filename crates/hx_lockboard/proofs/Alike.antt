@@ -1,5 +1,5 @@
 -- Two seats of one board tell each other.
-use Rattle.std.proofs.Common.{◌≡◌, [], sym, ap, ◌∙◌, arith}
+use Rattle.std.proofs.Common.{[], sym, ap, ◌∙◌}
 use Rattle.hx_pool.specs.History.{own_of}
 use Rattle.hx_pool.specs.SeatView.{About, History, Calls, Tells, AreOfOneBoard}
 use Rattle.hx_pool.proofs.Calls.{makes_both}

@@ -1,6 +1,5 @@
 -- Private: what contracts see of a seat's token, and what each of its calls does.
 use Rattle.std.specs.Prelude.{◌≡◌, ℕ, Bool, true, false, List, [], ◌∷◌, ◌++◌, Option, None}
-use Rattle.atomic_table.specs.Seated.{TableId}
 use Rattle.hx_base.specs.Shown.{Shown}
 use Rattle.hx_pool.specs.declared.entries.Note.{Note}
 use Rattle.hx_pool.specs.History.{own_of}
