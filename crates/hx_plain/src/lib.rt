@@ -3,9 +3,7 @@
 #![tactic(auto)]
 
 mod admit;
-mod choice;
 mod ledger;
-mod marks;
 mod plain;
 mod rest;
 mod row;

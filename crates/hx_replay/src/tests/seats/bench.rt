@@ -16,7 +16,7 @@ pub(crate) struct Card {
 impl Faced for Card {
     ghost use Rattle.std.specs.Prelude.{None};
 
-    ghost shows = { λ c. record { face = c.face; server = record { 0 = 0 }; what = record { faults = 0; tag = None; told = None } } };
+    ghost shows = { λ c. record { face = c.face; server = record { 0 = 0 }; what = record { faults = 0; tag = None; told = None; plan = None } } };
 
     fn face(&self) -> Face {
         self.face
