@@ -1,5 +1,5 @@
 -- What a caller of the seat keeps: the seat's server, and where a quota stands.
-use Rattle.std.proofs.Common.{◌≡◌, ◌-◌, sym, subst, arith, Option, Some, None, Ok, Err, ⊎_elim}
+use Rattle.std.proofs.Common.{◌≡◌, Bool, ◌-◌, sym, subst, arith, Option, Some, None, Ok, Err, ⊎_elim}
 use Rattle.std.specs.Prelude.{Result, MatchOption, MatchResult}
 use Rattle.hx_base.specs.declared.numbers.SessionNo.{SessionNo}
 use Rattle.hx_base.specs.declared.numbers.PlaceNo.{PlaceNo}
@@ -12,6 +12,7 @@ use Rattle.hx_pool.specs.declared.refusals.NoneOver.TheVariants.{NotAllowed, Bel
 use Rattle.hx_pool.specs.declared.refusals.Unparked.{Unparked}
 use Rattle.hx_pool.specs.SeatView.{About, History}
 use Rattle.hx_pool.specs.Parking.{Parks, RefusesPark, FindsDraining, TakesBack}
+use Rattle.hx_pool.specs.Taking.{TakesOwn, TakesNoneOwn}
 use Rattle.hx_pool.specs.Takeover.{TakesOver, RefusesTakeover}
 use Rattle.hx_pool.specs.Drain.{DrainsOne, DrainsNone}
 use Rattle.hx_pool.specs.Purge.{StandsAt, PurgesOne, PurgesNone, EndsPurge}
@@ -27,14 +28,18 @@ pub park_about : {V : Type 0} (old new : History) (n : SessionNo) (v : Shown) (r
 park_about old new n v (Ok place) h = h.makes.makes.about
 park_about old new n v (Err u) h = refuses_about old new n v u.why h
 
-over_refused : (old new : History) (first : Rattle.std.proofs.Common.Bool) (why : NoneOver) → RefusesTakeover old new first why → new.about ≡ old.about
+over_refused : (old new : History) (first : Bool) (why : NoneOver) → RefusesTakeover old new first why → new.about ≡ old.about
 over_refused old new first NotAllowed h = h.1.makes.about
 over_refused old new first (BelowLow c) h = h.2.makes.about
 over_refused old new first NoneSeen h = h.1.makes.makes.about
 
-pub over_about : {V : Type 0} (shows : V → Shown) (old new : History) (n : SessionNo) (first : Rattle.std.proofs.Common.Bool) (r : Result V NoneOver) → MatchResult r (λ v. TakesOver old new n first (shows v)) (λ why. RefusesTakeover old new first why) → new.about ≡ old.about
+pub over_about : {V : Type 0} (shows : V → Shown) (old new : History) (n : SessionNo) (first : Bool) (r : Result V NoneOver) → MatchResult r (λ v. TakesOver old new n first (shows v)) (λ why. RefusesTakeover old new first why) → new.about ≡ old.about
 over_about shows old new n first (Ok v) h = h.takes.makes.about
 over_about shows old new n first (Err why) h = over_refused old new first why h
+
+pub own_about : {V : Type 0} (shows : V → Shown) (old new : History) (n : SessionNo) (first : Bool) (o : Option V) → MatchOption o (TakesNoneOwn old new first) (λ v. TakesOwn old new n first (shows v)) → new.about ≡ old.about
+own_about shows old new n first None h = h.looks.makes.about
+own_about shows old new n first (Some v) h = h.takes.makes.about
 
 pub drain_about : {V : Type 0} (shows : V → Shown) (old new : History) (o : Option V) → MatchOption o (DrainsNone old new) (λ v. DrainsOne old new (shows v)) → new.about ≡ old.about
 drain_about shows old new None h = h.looks.makes.about

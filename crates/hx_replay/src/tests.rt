@@ -2,6 +2,7 @@
 ghost use Rattle.std.specs.Prelude.{◌≡◌, IfOk};
 
 mod answers;
+mod boards;
 mod configs;
 mod configurations;
 mod connections;
