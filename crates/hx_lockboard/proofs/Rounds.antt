@@ -41,7 +41,7 @@ module _ {V : Type 0} (shows : V → Shown) (k : Start shows) (now : Millis) (r 
       → KeepsAll k.b k.t d3 k.p k.totals k.opened × GivesNoQuota (history k.b k.t k.p k.d0) (history k.b k.t k.p d3) now × Grows (history k.b k.t k.p k.d0) (history k.b k.t k.p d3) []
   not_due late d2 d3 wrote back = (
     keeps_on shows k d2 one wrote d3 back (refl, tt) k.rows (late_after late) k.totals (tt, tt) refl refl,
-    inr (some, record { was = o; late = subst (λ (j : ℕ). j ≤ o) is late; makes = subst (λ (j : ℕ). Calls (history k.b k.t k.p k.d0) (history k.b k.t k.p d3) (plain (Round k.t j o) ∷ [])) is (calls_of shows k d2 one wrote d3 back (refl, tt) k.rows (late_after late) refl) }),
+    inr (some, record { was = o; early = subst (λ (j : ℕ). j ≤ o) is late; makes = subst (λ (j : ℕ). Calls (history k.b k.t k.p k.d0) (history k.b k.t k.p d3) (plain (Round k.t j o) ∷ [])) is (calls_of shows k d2 one wrote d3 back (refl, tt) k.rows (late_after late) refl) }),
     grows_of shows k d2 one wrote d3 back (refl, tt) k.rows (late_after late) refl k.p [] (sym (ap (λ (z : Bool). cond z (Round k.t r o ∷ []) []) (le-ltb o r late))) (omega arith),
   )
 
@@ -63,7 +63,7 @@ module _ {V : Type 0} (shows : V → Shown) (k : Start shows) (now : Millis) (r 
       record {
         while_ = some;
         was = o;
-        early = subst (λ (j : ℕ). o < j) is early;
+        late = subst (λ (j : ℕ). o < j) is early;
         c = c;
         makes = subst (λ (j : ℕ). Calls (history k.b k.t k.p k.d0) (history k.b k.t k.p d3) (plain (Round k.t j o) ∷ plain (Count k.t c) ∷ [])) is (calls_of shows k d2 two wrote d3 back (refl, (refl, tt)) rows' early_after refl);
         answer = ap (λ (j : ℕ). let q : Quota = record { left = quota_of c (j - o); row = k.t.0; place = 0; seen = 0 } in q) is;
