@@ -26,6 +26,7 @@ code_of NoServer = 11
 
 -- what is read next, unless there is a fault already
 infixl 10 ◌>>=◌
+-- what comes of both, or the first refusal
 abbrev pub ◌>>=◌ : {A B E : Type 0} → Result A E → (A → Result B E) → Result B E
 (Ok x) >>= f = f x
 (Err e) >>= f = Err e

@@ -7,11 +7,13 @@ use Rattle.hx_link.specs.declared.answers.Got.TheVariants as got
 use Rattle.hx_link.specs.declared.answers.Put.TheVariants as put
 use Rattle.hx_link.specs.Told.{SourceState, SinkState}
 
+-- a reader as a source, and what std knows of it
 pub record ReadingNow : Type 0 where
   pub state : SourceState
   -- the bytes that the reader will give, where std knows them
   pub left : Option (List ℕ)
 
+-- a writer as a sink, and what std knows of it
 pub record WritingNow : Type 0 where
   pub state : SinkState
   -- the bytes that the writer holds, where std knows them
@@ -21,6 +23,7 @@ pub record WritingNow : Type 0 where
 abbrev pub new_reading : Option (List ℕ) → ReadingNow
 new_reading left = record { state = record { faults = 0; left = None; told_end = false }; left = left }
 
+-- a writer from which no fault came yet
 abbrev pub new_writing : Option (List ℕ) → WritingNow
 new_writing held = record { state = record { faults = 0; taken = None }; held = held }
 

@@ -6,6 +6,7 @@ use Rattle.hx_link.specs.Places.{IsPlace}
 use Rattle.hx_link.specs.MemoryLinks.{MemoryLinkNow, WaitsFor, CannotFail}
 use Rattle.hx_link.specs.declared.memory_link.MemoryLink.TheInside.{Inside}
 
+-- the value of a link in memory
 abbrev pub link_view : Inside → MemoryLinkNow
 link_view m = record {
   plan = m.plan;
@@ -33,6 +34,7 @@ link_view m = record {
   starved = m.starved;
 }
 
+-- what its fields keep
 pub record IsLink (m : Inside) : Type 0 where
   pub place : IsPlace m.plan.pieces m.at
   pub within : m.at.taken ≤ length (planned m.plan.pieces)

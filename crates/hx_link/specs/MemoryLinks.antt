@@ -4,6 +4,7 @@ use Rattle.hx_link.specs.Told.{LinkState, most_bytes}
 use Rattle.hx_link.specs.Planned.{planned, is_ready, fails_at}
 use Rattle.hx_base.specs.declared.plan.Plan.{Plan}
 
+-- a link in memory, as contracts see it
 pub record MemoryLinkNow : Type 0 where
   pub plan : Plan
   pub state : LinkState

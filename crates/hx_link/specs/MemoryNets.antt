@@ -9,6 +9,7 @@ pub use Rattle.hx_link.specs.Courses.{is_server, next_plan, without_next, refuse
 use Rattle.hx_link.specs.Courses.{after_dial, attached}
 use Rattle.hx_link.specs.MemoryLinks.{MemoryLinkNow, begun_link, state_of}
 
+-- a net in memory, as contracts see it
 pub record MemoryNetNow : Type 0 where
   pub state : NetState
   -- the plans that are left, in order
@@ -107,6 +108,7 @@ KeepsLink old new link =
       starved = old.starved || link.starved;
     }
 
+-- the link is kept among the buried ones, unless no memory was found for it
 abbrev pub MemoryBuries : MemoryNetNow → MemoryNetNow → MemoryLinkNow → Type 0
 MemoryBuries old new link =
     (KeepsLink old new link × (old.room ≤ new.room + 1))

@@ -14,6 +14,7 @@ pub record DialTold : Type 0 where
   pub answered : Bool
   pub tag : Option ℕ
 
+-- what a net tells
 pub record NetState : Type 0 where
   pub faults : ℕ
   pub loop_no : ℕ
@@ -58,6 +59,7 @@ pub record IsDialled (server : ServerNo) (id : ConnId) (l : LinkState) : Type 0 
   pub taken : OnSome l.taken (IsSome l.dial)
   pub sent : OnSome l.sent (IsSome l.dial)
 
+-- a dial, as a net tells it
 abbrev pub told_dial : ServerNo → ConnId → Bool → Option ℕ → DialTold
 told_dial server id answered tag = record { server = server; id = id; answered = answered; tag = tag }
 

@@ -6,6 +6,7 @@ pub record PipeNow : Type 0 where
   pub bytes : List ℕ
   pub capacity : ℕ
 
+-- a pipe with these bytes and this capacity
 abbrev pub pipe : List ℕ → ℕ → PipeNow
 pipe bytes capacity = record { bytes = bytes; capacity = capacity }
 

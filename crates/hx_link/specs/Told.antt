@@ -4,6 +4,7 @@ use Rattle.std.specs.Prelude.{◌≡◌, ℕ, ◌-◌, ◌^◌, ◌≤◌, Bool,
 use Rattle.hx_base.specs.Counts.{Rose}
 use Rattle.hx_base.specs.declared.plan.Plan.{Plan}
 
+-- what a source tells
 pub record SourceState : Type 0 where
   -- how often it failed
   pub faults : ℕ
@@ -11,11 +12,13 @@ pub record SourceState : Type 0 where
   pub left : Option (List ℕ)
   pub told_end : Bool
 
+-- what a sink tells
 pub record SinkState : Type 0 where
   pub faults : ℕ
   -- all bytes that it took, where it tells them
   pub taken : Option (List ℕ)
 
+-- what a link tells
 pub record LinkState : Type 0 where
   pub faults : ℕ
   -- how often a read had to wait, and the moment of the last such read

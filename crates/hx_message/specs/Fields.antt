@@ -11,6 +11,7 @@ use Rattle.httparse.specs.Spans.{name_and_value}
 abbrev pub NameAndValue : Type 0
 NameAndValue = List ℕ × List ℕ
 
+-- the fields as names and values
 abbrev pub read_fields : List Field → List NameAndValue
 read_fields fields = map name_and_value fields
 

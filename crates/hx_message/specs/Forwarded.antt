@@ -35,6 +35,7 @@ pub record BeginsRequest (bytes : List ℕ) (g : RequestHead) (rest : List ℕ) 
 abbrev pub IsInterim : ResponseHead → Type 0
 IsInterim g = (100 ≤ status_code g) × (status_code g < 200) × (status_code g ≡ 101 → ⊥)
 
+-- a final head
 abbrev pub IsFinal : ResponseHead → Type 0
 IsFinal g = 200 ≤ status_code g
 

@@ -22,6 +22,7 @@ pub record Rested : Type 0 where
   pub place : ℕ
   pub shown : Shown
 
+-- what the values show
 abbrev pub rests_of : {V : Type 0} → (V → Shown) → List (Rest V) → List Rested
 rests_of shows xs = map (λ x. record { place = x.place; shown = shows x.v }) xs
 
@@ -58,6 +59,7 @@ pub record CutAt (rests : List Rested) (i place : ℕ) : Type 0 where
   pub index : length before ≡ i
   pub at : chosen.place ≡ place
 
+-- the request may take none of them of this list
 abbrev pub NoneFits : Mode → Bool → Bool → List Rested → Type 0
 NoneFits mode first safe [] = Unit {0}
 NoneFits mode first safe (x ∷ xs) = (fits mode first safe x.shown.face.uses ≡ false) × NoneFits mode first safe xs
@@ -109,11 +111,13 @@ pub record Admits (old new : Book) (t : ThreadNo) (rests : List Rested) (drainin
   pub limit : IfSome max (λ m. length rests < m)
   pub book : new ≡ add_notes old (gated t (looks_run t rests 0 (p + 1)) (plain (Up t (length rests)) ∷ []))
 
+-- the entries of a park that a draining gate refused
 pub record IsShut (old new : Book) (t : ThreadNo) (rests : List Rested) : Type 0 where
   pub p : ℕ
   pub first : IsFirstVacant rests p
   pub book : new ≡ add_notes old (looks_run t rests 0 (p + 1) ++ plain (Gate t true) ∷ [])
 
+-- the entries of a park that the count refused
 pub record IsOverMax (old new : Book) (t : ThreadNo) (rests : List Rested) (max : Option ℕ) (c : ℕ) : Type 0 where
   pub p : ℕ
   pub first : IsFirstVacant rests p

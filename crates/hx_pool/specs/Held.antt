@@ -15,9 +15,11 @@ pub record Hold : Type 0 where
   pub session : SessionNo
   pub uses : ℕ
 
+-- held by this session with so many uses
 abbrev pub hold : SessionNo → ℕ → Option Hold
 hold n uses = Some (record { session = n; uses = uses })
 
+-- who holds the connection, after one entry more
 abbrev pub hold_after : ℕ → Option Hold → Entry → Option Hold
 hold_after i o (Open t n id) = cond (id.0 == i) (hold n 0) o
 hold_after i o (Take t n first place id uses) = cond (id.0 == i) (hold n uses) o
@@ -25,6 +27,7 @@ hold_after i o (Park t n id place uses) = cond (id.0 == i) None o
 hold_after i o (Close t n id) = cond (id.0 == i) None o
 hold_after i o _ = o
 
+-- the same after these notes more
 abbrev pub hold_from : ℕ → Option Hold → List Note → Option Hold
 hold_from i o [] = o
 hold_from i o (x ∷ xs) = hold_from i (hold_after i o x.entry) xs
@@ -42,6 +45,7 @@ abbrev pub without : ConnId → List Face → List Face
 without id [] = []
 without id (f ∷ fs) = cond (f.id.0 == id.0) (without id fs) (f ∷ without id fs)
 
+-- what the session holds, after one entry more
 abbrev pub held_after : SessionNo → List Face → Entry → List Face
 held_after n fs (Open t m id) = cond (m.0 == n.0) (fs ++ face_of id 0 ∷ []) fs
 held_after n fs (Take t m first place id uses) = cond (m.0 == n.0) (fs ++ face_of id uses ∷ []) fs
@@ -49,6 +53,7 @@ held_after n fs (Park t m id place uses) = cond (m.0 == n.0) (without id fs) fs
 held_after n fs (Close t m id) = cond (m.0 == n.0) (without id fs) fs
 held_after n fs _ = fs
 
+-- the same after these notes more
 abbrev pub held_from : SessionNo → List Face → List Note → List Face
 held_from n fs [] = fs
 held_from n fs (x ∷ xs) = held_from n (held_after n fs x.entry) xs

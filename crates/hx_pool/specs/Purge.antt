@@ -20,6 +20,7 @@ round_at a now = (now.0 - a.start.0) / a.rules.delay.0
 abbrev pub quota_of : ℕ → ℕ → ℕ
 quota_of c intervals = c - c / 2 ^ min intervals 63
 
+-- the Round of a seat at this moment
 abbrev pub round_raised : About → Millis → ℕ → Note
 round_raised a now old = plain (Round a.thread (round_at a now) old)
 

@@ -19,6 +19,7 @@ use Rattle.hx_pool.specs.Takeover.{AllowsSome, AllowsNone, OthersUnavailable, Re
 abbrev pub ShowsFew : History → List Note → Type 0
 ShowsFew h es = (c : ℕ) × (c < h.about.rules.low) × Among (λ e. e ≡ Count h.about.thread c) es
 
+-- one of the entries shows a count that isn't below the least number
 abbrev pub ShowsEnough : History → List Note → Type 0
 ShowsEnough h es = (c : ℕ) × (h.about.rules.low ≤ c) × Among (λ e. e ≡ Count h.about.thread c) es
 

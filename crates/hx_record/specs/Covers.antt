@@ -39,6 +39,7 @@ abbrev pub sent_to : ℕ → List Carried → ℕ
 sent_to k [] = k
 sent_to k (c ∷ exchanges) = sent_to c.sent.to exchanges
 
+-- how far the exchanges reach in what was taken
 abbrev pub took_to : ℕ → List Carried → ℕ
 took_to k [] = k
 took_to k (c ∷ exchanges) = took_to c.took.to exchanges

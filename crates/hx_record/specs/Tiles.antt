@@ -69,11 +69,13 @@ pub record TilesClient (records : List Told) (client : ClientBytes) : Type 0 whe
 abbrev pub carried_if : ServerNo → ConnId → Carried → List Carried
 carried_if server id c = if (c.server.0 == server.0) && (c.id.0 == id.0) then c ∷ [] else []
 
+-- the exchange of a record on this connection, if it is one
 abbrev pub carried_by : ServerNo → ConnId → Kind → List Carried
 carried_by server id (kind.Passed c) = carried_if server id c
 carried_by server id (kind.Cut c why) = carried_if server id c
 carried_by server id (kind.Own status) = []
 
+-- the exchange that a line tells on this connection, if it tells one
 abbrev pub carried_of : ServerNo → ConnId → Told → List Carried
 carried_of server id (told.Served s) = carried_by server id s.kind
 carried_of server id (told.Left l) = []

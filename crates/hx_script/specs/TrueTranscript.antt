@@ -73,6 +73,7 @@ IsTrueKind t ends s (kind.Own status) =
     (client : ClientBytes) × HasClient t s client × (l : Left) × LeftFor t s l
     × IsTrueOwn s status (client_carriage client false) l.cause
 
+-- a line of the records is true
 abbrev pub IsTrueRecord : Transcript → Ends → Told → Type 0
 IsTrueRecord t ends (told.Served s) = IsTrueKind t ends s s.kind
 IsTrueRecord t ends (told.Left l) = ⊤
