@@ -25,7 +25,7 @@ GivesUp busy o =
 
 -- the client ends, or it has more, or waits
 abbrev pub ReadsEnd : MemoryLinkNow → MemoryLinkNow → Bool → Type 0
-ReadsEnd old new true = new.state ≡ record old.state { told_end = true }
+ReadsEnd old new true = new.state ≡ record old.state { told_end = true; read_length = new.state.read_length }
 ReadsEnd old new false = (is_due old 0 ≡ false) ⊎ (is_spent old ≡ false)
 
 -- it should end, and doesn't
