@@ -4,3 +4,4 @@ pub mod Last
 pub mod Links
 pub mod Ranges
 pub mod Tiling
+pub mod Ways

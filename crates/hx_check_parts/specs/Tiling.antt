@@ -1,5 +1,5 @@
 -- The fifth rule: the ranges of the records cover the bytes of the links.
-use Rattle.std.specs.Prelude.{◌≡◌, ◌≢◌, ℕ, ◌+◌, ◌-◌, ◌≤◌, ◌==◌, List, [], Option, Some, None, IsSome, IfSome, length, take, drop, find, ⊤}
+use Rattle.std.specs.Prelude.{◌≡◌, ◌≢◌, ℕ, ◌+◌, ◌<◌, ◌==◌, List, [], Option, Some, None, IsSome, IfSome, length, take, drop, find, ⊤}
 use Rattle.std.specs.List.{flat_map}
 use Rattle.hx_base.specs.Spans.{AreContiguous}
 use Rattle.hx_base.specs.declared.numbers.Span.{Span}
@@ -44,18 +44,17 @@ numbered k xs = find (λ (c : Carried). c.nth == k) xs
 
 -- of so many exchanges each number from 1 on is there, so that none is there twice
 abbrev pub AreNumbered : List Carried → Type 0
-AreNumbered xs = (k : ℕ) → 1 ≤ k → k ≤ length xs → IsSome (numbered k xs)
+AreNumbered xs = (k : ℕ) → k < length xs → IsSome (numbered (k + 1) xs)
 
 -- where a range of the exchange ends; there is none in front of the first
 abbrev pub end_of : (Carried → Span) → Option Carried → ℕ
 end_of range None = 0
 end_of range (Some c) = (range c).to
 
--- by rising number the ranges follow each other from the first byte
+-- by rising number from 1 the ranges follow each other from the first byte
 abbrev pub Follow : (Carried → Span) → List Carried → Type 0
 Follow range xs =
-    (k : ℕ) → 1 ≤ k → k ≤ length xs
-    → IfSome (numbered k xs) (λ c. (range c).from ≡ end_of range (numbered (k - 1) xs))
+    (k : ℕ) → k < length xs → IfSome (numbered (k + 1) xs) (λ c. (range c).from ≡ end_of range (numbered k xs))
 
 abbrev pub sent_range : Carried → Span
 sent_range c = c.sent

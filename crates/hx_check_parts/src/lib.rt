@@ -1,6 +1,7 @@
 //! The rules of a check over the parts of a transcript that they speak of.
 #![tactic(auto)]
 
+mod exchanges;
 mod last;
 mod legal;
 mod limit;
@@ -8,3 +9,4 @@ mod links;
 mod mode;
 mod ranges;
 mod sums;
+mod tiles;
