@@ -1,5 +1,5 @@
 -- Facts of the items of a list, by their index, and the first item that one of them fails for.
-use Rattle.std.specs.Prelude.{◌≡◌, ℕ, ◌<◌, List, Option, Some, IfSome, length, slice_get}
+use Rattle.std.specs.Prelude.{◌≡◌, ℕ, ◌<◌, List, Some, IfSome, length, slice_get}
 
 -- the fact holds of each item in front of that index
 abbrev pub HoldsBelow : {A : Type 0} → (ℕ → A → Type 0) → List A → ℕ → Type 0

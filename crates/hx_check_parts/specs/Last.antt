@@ -2,10 +2,8 @@
 use Rattle.std.specs.Prelude.{◌≡◌, ℕ, ◌<◌, Bool, false, ◌==◌, ◌&&◌, List, length, slice_index}
 use Rattle.hx_base.specs.declared.numbers.ThreadNo.{ThreadNo}
 use Rattle.hx_base.specs.declared.numbers.SessionNo.{SessionNo}
-use Rattle.hx_base.specs.declared.rules.PoolRules.{PoolRules}
-use Rattle.hx_pool.specs.declared.entries.Entry.{Entry}
 use Rattle.hx_pool.specs.Table.{Conn, Unopened, HeldBy, IdleAt, Closed}
-use Rattle.hx_check_parts.specs.Marks.{MarkTable, table_before, IsStep, IsAllowed, IsWithin}
+use Rattle.hx_check_parts.specs.Marks.{MarkTable}
 
 -- the connection is with that session
 abbrev pub is_held : Conn → ThreadNo → SessionNo → Bool
@@ -28,13 +26,3 @@ pub record AreFew (n : ℕ) (rows : List ℕ) (sum : ℕ) : Type 0 where
   pub size : length rows ≡ 256
   pub each : (row : ℕ) → row < 256 → slice_index rows row < n
   pub all : sum < n
-
--- each rule, asked of the mark at an index
-abbrev pub IsStepAt : List Entry → ℕ → Entry → Type 0
-IsStepAt marks k mark = IsStep (table_before marks k) mark
-
-abbrev pub IsAllowedAt : PoolRules → ℕ → Entry → Type 0
-IsAllowedAt rules k mark = IsAllowed rules mark
-
-abbrev pub IsWithinAt : PoolRules → List Entry → ℕ → Entry → Type 0
-IsWithinAt rules marks k mark = IsWithin rules (table_before marks k) mark

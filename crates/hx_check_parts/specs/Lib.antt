@@ -5,3 +5,4 @@ pub mod Links
 pub mod Ranges
 pub mod Tiling
 pub mod Ways
+pub mod Samples

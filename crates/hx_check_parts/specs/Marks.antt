@@ -97,3 +97,13 @@ IsAllowed rules _ = ⊤
 abbrev pub IsWithin : PoolRules → MarkTable → Entry → Type 0
 IsWithin rules T (Park t n id at uses) = IfSome rules.max (λ m. T.in_all + 1 ≤ m) × (T.in_row at.row + 1 ≤ 64)
 IsWithin rules T _ = ⊤
+
+-- each rule, asked of the mark at an index
+abbrev pub IsStepAt : List Entry → ℕ → Entry → Type 0
+IsStepAt marks k mark = IsStep (table_before marks k) mark
+
+abbrev pub IsAllowedAt : PoolRules → ℕ → Entry → Type 0
+IsAllowedAt rules k mark = IsAllowed rules mark
+
+abbrev pub IsWithinAt : PoolRules → List Entry → ℕ → Entry → Type 0
+IsWithinAt rules marks k mark = IsWithin rules (table_before marks k) mark

@@ -3,8 +3,6 @@ use Rattle.std.specs.Prelude.{◌≡◌, ◌≢◌, ℕ, ◌+◌, ◌<◌, ◌==
 use Rattle.std.specs.List.{flat_map}
 use Rattle.hx_base.specs.Spans.{AreContiguous}
 use Rattle.hx_base.specs.declared.numbers.Span.{Span}
-use Rattle.hx_base.specs.declared.numbers.ThreadNo.{ThreadNo}
-use Rattle.hx_base.specs.declared.numbers.SessionNo.{SessionNo}
 use Rattle.hx_record.specs.Tiles.{ask_of, gave_of, left_of, carried_of}
 use Rattle.hx_record.specs.declared.bytes.ClientBytes.{ClientBytes}
 use Rattle.hx_record.specs.declared.bytes.ConnBytes.{ConnBytes}

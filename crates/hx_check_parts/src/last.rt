@@ -15,7 +15,10 @@ fn holds_after(mark: Entry, t: ThreadNo, n: SessionNo, id: ConnId) -> Option<boo
     let (other, held) = match mark {
         Entry::Open { t: by, n: of, id } => (id, by == t && of == n),
         Entry::Take {
-            t: by, n: of, id, ..
+            t: by,
+            n: of,
+            id,
+            ..
         } => (id, by == t && of == n),
         Entry::Park { id, .. } | Entry::Close { id, .. } => (id, false),
         _ => return None,
@@ -73,7 +76,10 @@ fn rests_after(mark: Entry, at: PlaceNo) -> Option<Option<Face>>
 {
     let (other, face) = match mark {
         Entry::Park {
-            id, place, uses, ..
+            id,
+            place,
+            uses,
+            ..
         } => (place, Some(Face { id, uses })),
         Entry::Take { place, .. } => (place, None),
         _ => return None,

@@ -1,8 +1,8 @@
 //! The first rule: each mark is a step of the connection table.
 ghost use Rattle.std.specs.Prelude.{◌≡◌, ◌≤◌, ◌+◌, ◌-◌, ◌<◌, ◌^◌, ◌↔◌, IsTrue, MatchOption, length};
 ghost use Rattle.hx_check_parts.specs.Each.{HoldsOfEach, FailsFirst};
-ghost use Rattle.hx_check_parts.specs.Marks.{MarkTable, marked, table_of, IsStep};
-ghost use Rattle.hx_check_parts.specs.Last.{Counts, IsStepAt};
+ghost use Rattle.hx_check_parts.specs.Marks.{MarkTable, marked, table_of, IsStep, IsStepAt};
+ghost use Rattle.hx_check_parts.specs.Last.{Counts};
 
 use crate::last::{is_with, resting_at, uses_of};
 use hx_base::{ConnId, Face, PlaceNo, SessionNo, ThreadNo};
@@ -70,7 +70,10 @@ fn is_step(marks: &[Entry], numbers: Numbers, mark: Entry) -> bool
             uses,
         } => may_park(marks, t, n, id, place, uses),
         Entry::Take {
-            place, id, uses, ..
+            place,
+            id,
+            uses,
+            ..
         } => resting_at(marks, place) == Some(Face { id, uses }),
         Entry::Close { t, n, id } => is_with(marks, t, n, id),
         Entry::Round { k, old, .. } => old == numbers.round && old < k,

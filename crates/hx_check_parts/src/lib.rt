@@ -1,4 +1,4 @@
-//! The rules of a check over the parts of a transcript that they speak of.
+//! The rules by which a transcript is judged, over the parts of it that they speak of.
 #![tactic(auto)]
 
 mod exchanges;
@@ -8,5 +8,14 @@ mod limit;
 mod links;
 mod mode;
 mod ranges;
+mod samples;
 mod sums;
 mod tiles;
+
+pub use exchanges::{sent_holds, took_holds};
+pub use legal::first_illegal;
+pub use limit::first_past_limit;
+pub use links::{client_gave, client_took, conn_sent, conn_took};
+pub use mode::first_against_mode;
+pub use sums::sums_of;
+pub use tiles::{first_loose_left, first_without_left};

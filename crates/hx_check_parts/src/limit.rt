@@ -1,8 +1,8 @@
 //! The third rule: no more connections rest than may.
 ghost use Rattle.std.specs.Prelude.{◌≡◌, ◌≤◌, ◌<◌, ◌+◌, ◌-◌, ◌^◌, ℕ, ◌↔◌, IsTrue, IfSome, MatchOption, length};
 ghost use Rattle.hx_check_parts.specs.Each.{HoldsOfEach, FailsFirst};
-ghost use Rattle.hx_check_parts.specs.Marks.{MarkTable, marked, no_marks, IsWithin};
-ghost use Rattle.hx_check_parts.specs.Last.{CountsRests, AreFew, IsWithinAt};
+ghost use Rattle.hx_check_parts.specs.Marks.{MarkTable, marked, no_marks, IsWithin, IsWithinAt};
+ghost use Rattle.hx_check_parts.specs.Last.{CountsRests, AreFew};
 
 use hx_base::{PlaceNo, PoolRules};
 use hx_pool::Entry;

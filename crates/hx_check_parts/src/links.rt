@@ -19,7 +19,7 @@ fn client_of(clients: &[ClientBytes], t: ThreadNo, n: SessionNo) -> Option<&Clie
 }
 
 /// What was read of the session's client.
-pub(crate) fn client_took(clients: &[ClientBytes], t: ThreadNo, n: SessionNo) -> &[u8]
+pub fn client_took(clients: &[ClientBytes], t: ThreadNo, n: SessionNo) -> &[u8]
     ensures { result.now ≡ client_took clients.now t n }
 {
     match client_of(clients, t, n) {
@@ -29,7 +29,7 @@ pub(crate) fn client_took(clients: &[ClientBytes], t: ThreadNo, n: SessionNo) ->
 }
 
 /// What the session's client was given.
-pub(crate) fn client_gave(clients: &[ClientBytes], t: ThreadNo, n: SessionNo) -> &[u8]
+pub fn client_gave(clients: &[ClientBytes], t: ThreadNo, n: SessionNo) -> &[u8]
     ensures { result.now ≡ client_gave clients.now t n }
 {
     match client_of(clients, t, n) {
@@ -51,7 +51,7 @@ fn conn_of(conns: &[ConnBytes], server: ServerNo, id: ConnId) -> Option<&ConnByt
 }
 
 /// What was sent on the connection.
-pub(crate) fn conn_sent(conns: &[ConnBytes], server: ServerNo, id: ConnId) -> &[u8]
+pub fn conn_sent(conns: &[ConnBytes], server: ServerNo, id: ConnId) -> &[u8]
     ensures { result.now ≡ conn_sent conns.now server id }
 {
     match conn_of(conns, server, id) {
@@ -61,7 +61,7 @@ pub(crate) fn conn_sent(conns: &[ConnBytes], server: ServerNo, id: ConnId) -> &[
 }
 
 /// What was read of the connection.
-pub(crate) fn conn_took(conns: &[ConnBytes], server: ServerNo, id: ConnId) -> &[u8]
+pub fn conn_took(conns: &[ConnBytes], server: ServerNo, id: ConnId) -> &[u8]
     ensures { result.now ≡ conn_took conns.now server id }
 {
     match conn_of(conns, server, id) {

@@ -2,8 +2,7 @@
 ghost use Rattle.std.specs.Prelude.{◌≡◌, ℕ, ◌↔◌, IsTrue, MatchOption};
 ghost use Rattle.hx_pool.specs.Rules.{allows};
 ghost use Rattle.hx_check_parts.specs.Each.{HoldsOfEach, FailsFirst};
-ghost use Rattle.hx_check_parts.specs.Marks.{IsAllowed};
-ghost use Rattle.hx_check_parts.specs.Last.{IsAllowedAt};
+ghost use Rattle.hx_check_parts.specs.Marks.{IsAllowed, IsAllowedAt};
 
 use hx_base::{Mode, PoolRules, SessionNo};
 use hx_pool::Entry;

@@ -1,7 +1,7 @@
 use Rattle.std.proofs.Common.{rules, sym, subst, arith}
 use Rattle.std.proofs.lemmas.List.Sums.{fold_more}
-use Rattle.hx_check_parts.specs.Marks.{marked, no_marks}
-use Rattle.hx_check_parts.specs.Last.{Counts, IsStepAt}
+use Rattle.hx_check_parts.specs.Marks.{marked, no_marks, IsStepAt}
+use Rattle.hx_check_parts.specs.Last.{Counts}
 use Rattle.hx_check_parts.proofs.EachLemmas.{holds_more}
 use Rattle.hx_check_parts.proofs.legal.first_illegal.Goals as goal
 
@@ -12,6 +12,6 @@ loop-k-preserved c =
     record {
       below = holds_more (IsStepAt marks) marks c.loop-k.k _ c.loop-k-test.true c.loop-k.invariant.below (c.is_step.ensures.0 (search rules));
       numbers = subst (λ T. Counts T numbers.next numbers.round) (sym (fold_more marked no_marks marks c.loop-k.k _ c.loop-k-test.true))
-        (c.after-numbers.ensures.tells _ c.loop-k.invariant.numbers);
+          (c.after-numbers.ensures.tells _ c.loop-k.invariant.numbers);
       small = omega arith;
     }

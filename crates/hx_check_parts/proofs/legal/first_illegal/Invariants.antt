@@ -1,7 +1,7 @@
 use Rattle.std.proofs.Common.{◌+◌, ◌≤◌}
 use Rattle.hx_check_parts.specs.Each.{HoldsBelow}
-use Rattle.hx_check_parts.specs.Marks.{table_before}
-use Rattle.hx_check_parts.specs.Last.{Counts, IsStepAt}
+use Rattle.hx_check_parts.specs.Marks.{table_before, IsStepAt}
+use Rattle.hx_check_parts.specs.Last.{Counts}
 use Rattle.hx_check_parts.proofs.legal.first_illegal.Given as goal
 
 abbrev pub invariant-loop-k : goal.invariant-loop-k

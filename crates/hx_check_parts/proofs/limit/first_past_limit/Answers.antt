@@ -1,7 +1,7 @@
-use Rattle.std.proofs.Common.{◌+◌, rules, sym, subst, arith}
+use Rattle.std.proofs.Common.{◌+◌, rules, sym, subst}
 use Rattle.std.proofs.lemmas.List.Sums.{fold_more}
-use Rattle.hx_check_parts.specs.Marks.{marked, no_marks, table_before}
-use Rattle.hx_check_parts.specs.Last.{CountsRests, IsWithinAt}
+use Rattle.hx_check_parts.specs.Marks.{marked, no_marks, table_before, IsWithinAt}
+use Rattle.hx_check_parts.specs.Last.{CountsRests}
 use Rattle.hx_check_parts.proofs.EachLemmas.{holds_more, fails_first, is_not_true}
 use Rattle.hx_check_parts.proofs.MarkLemmas.{no_entry}
 use Rattle.hx_check_parts.proofs.limit.first_past_limit.Goals as goal
@@ -21,6 +21,6 @@ loop-k-preserved c =
     record {
       below = holds_more (IsWithinAt c.args.rules marks) marks c.loop-k.k no_entry c.loop-k-test.true c.loop-k.invariant.below (says.0 (search rules));
       tells = subst (λ T. CountsRests T rests.rows rests.all) (sym (fold_more marked no_marks marks c.loop-k.k no_entry c.loop-k-test.true))
-        (c.count.ensures.tells (table_before marks c.loop-k.k) c.loop-k.invariant.tells);
+          (c.count.ensures.tells (table_before marks c.loop-k.k) c.loop-k.invariant.tells);
       few = c.count.ensures.grows (c.loop-k.k + 1) c.loop-k.invariant.few;
     }

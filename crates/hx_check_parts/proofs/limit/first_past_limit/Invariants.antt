@@ -1,7 +1,7 @@
 use Rattle.std.proofs.Common.{◌+◌}
 use Rattle.hx_check_parts.specs.Each.{HoldsBelow}
-use Rattle.hx_check_parts.specs.Marks.{table_before}
-use Rattle.hx_check_parts.specs.Last.{CountsRests, AreFew, IsWithinAt}
+use Rattle.hx_check_parts.specs.Marks.{table_before, IsWithinAt}
+use Rattle.hx_check_parts.specs.Last.{CountsRests, AreFew}
 use Rattle.hx_check_parts.proofs.limit.first_past_limit.Given as goal
 
 abbrev pub invariant-loop-k : goal.invariant-loop-k

@@ -1,4 +1,4 @@
-use Rattle.std.proofs.Common.{◌≡◌, ◌↔◌, ℕ, drop}
+use Rattle.std.proofs.Common.{◌↔◌, ℕ, drop}
 use Rattle.hx_base.specs.Spans.{AreContiguous}
 use Rattle.hx_check_parts.specs.Ranges.{ranges_of}
 use Rattle.hx_check_parts.proofs.ranges.end_of.Given as goal

@@ -1,4 +1,4 @@
-use Rattle.std.proofs.Common.{◌≡◌, ◌↔◌, [], drop}
+use Rattle.std.proofs.Common.{◌≡◌, drop}
 use Rattle.hx_check_parts.specs.Ranges.{ranges_of}
 use Rattle.hx_check_parts.proofs.ranges.tell_none.Given as goal
 
