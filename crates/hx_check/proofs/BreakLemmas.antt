@@ -1,5 +1,5 @@
 -- The first connection that breaks the fifth rule.
-use Rattle.std.proofs.Common.{ℕ, refl, inl, inr}
+use Rattle.std.proofs.Common.{refl, inl, inr}
 use Rattle.hx_script.specs.declared.transcript.Transcript.{Transcript}
 use Rattle.hx_check.specs.Broken.{ConnBreaks}
 use Rattle.hx_check.specs.Conns.{IsFirst, line_of}

@@ -4,7 +4,7 @@ use Rattle.std.specs.Prelude.{IfSome, slice_get}
 use Rattle.std.proofs.lemmas.Option.{slice_get_read}
 use Rattle.hx_record.specs.declared.bytes.ConnBytes.{ConnBytes}
 use Rattle.hx_record.specs.declared.served.Told.{Told}
-use Rattle.hx_check_parts.specs.Each.{HoldsBelow, FailsFirst}
+use Rattle.hx_check_parts.specs.Each.{HoldsBelow}
 use Rattle.hx_check_parts.specs.Tiling.{SentHolds, TookHolds}
 use Rattle.hx_check.specs.Rules.{ConnIn}
 use Rattle.hx_check.specs.Conns.{IsFirst}

@@ -2,11 +2,10 @@
 -- transcript before the next.
 use Rattle.std.specs.Prelude.{◌≡◌, ◌⊎◌, ℕ, ◌+◌, ◌*◌, List, Some, slice_get, take}
 use Rattle.hx_pool.specs.declared.entries.Entry.{Entry}
-use Rattle.hx_record.specs.declared.bytes.ConnBytes.{ConnBytes}
 use Rattle.hx_script.specs.declared.transcript.ServerPart.{ServerPart}
 use Rattle.hx_script.specs.declared.transcript.Transcript.{Transcript}
 use Rattle.hx_check_parts.specs.Each.{HoldsBelow, HoldsOfEach, FailsFirst}
-use Rattle.hx_check_parts.specs.Tiling.{SentHolds, TookHolds}
+use Rattle.hx_check_parts.specs.Tiling.{SentHolds}
 use Rattle.hx_check.specs.Lines.{server_lines, records_at, clients_at, conns_at, totals_at}
 use Rattle.hx_check.specs.Rules.{MarksHold, LegalMark, ModeMark, LimitMark, RecordAt, LeftAt, ClientAt, ConnAt, TotalsAt}
 

@@ -3,7 +3,7 @@ use Rattle.std.specs.Prelude.{ℕ, ◌+◌, ◌*◌, List}
 use Rattle.hx_record.specs.declared.bytes.ConnBytes.{ConnBytes}
 use Rattle.hx_record.specs.declared.served.Told.{Told}
 use Rattle.hx_check_parts.specs.Each.{FailsFirst}
-use Rattle.hx_check_parts.specs.Tiling.{SentHolds, TookHolds}
+use Rattle.hx_check_parts.specs.Tiling.{SentHolds}
 use Rattle.hx_script.specs.declared.transcript.Transcript.{Transcript}
 use Rattle.hx_check.specs.Lines.{conns_at}
 use Rattle.hx_check.specs.Rules.{ConnIn}

@@ -1,4 +1,3 @@
-use Rattle.std.proofs.Common.{rules}
 use Rattle.hx_check_parts.proofs.EachLemmas.{is_not_true}
 use Rattle.hx_check.specs.Rules.{ConnIn}
 use Rattle.hx_check.proofs.ItemLemmas.{more_at, sent_first, took_first}
