@@ -1,0 +1,7 @@
+pub mod Lines
+pub mod Records
+pub mod Rules
+pub mod Broken
+pub mod Asked
+pub mod Conns
+pub mod Judged

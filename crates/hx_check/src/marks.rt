@@ -1,0 +1,50 @@
+//! The first three rules, over the marks of all servers.
+ghost use Rattle.std.specs.Prelude.{◌≡◌, ◌+◌, ℕ, MatchOption};
+ghost use Rattle.hx_check_parts.specs.Each.{HoldsOfEach, FailsFirst};
+ghost use Rattle.hx_check.specs.Lines.{told_line};
+ghost use Rattle.hx_check.specs.Rules.{MarksHold};
+ghost use Rattle.hx_check.specs.Broken.{MarkBreaks};
+ghost use Rattle.hx_check.specs.Asked.{asked_of};
+
+use crate::lines::{behind, behind_server};
+use hx_check_parts::{first_against_mode, first_illegal, first_past_limit};
+use hx_script::ServerPart;
+
+/// One of the first three rules.
+#[derive(Clone, Copy)]
+pub(crate) enum MarkRule {
+    /// A mark is a step of the connection table.
+    Legal,
+    /// The server's mode lets it be.
+    Mode,
+    /// After it no more connections rest than may.
+    Limit,
+}
+
+/// The first mark of the server that breaks the rule.
+fn first_in(rule: MarkRule, part: &ServerPart) -> Option<usize>
+    ensures { MatchOption result (HoldsOfEach (asked_of rule part.now) part.now.marks)
+        (λ k. FailsFirst (asked_of rule part.now) part.now.marks k) }
+{
+    let marks = part.marks.as_slice();
+    match rule {
+        MarkRule::Legal => first_illegal(marks),
+        MarkRule::Mode => first_against_mode(part.rules, marks),
+        MarkRule::Limit => first_past_limit(part.rules, marks),
+    }
+}
+
+/// The line of the first mark that breaks the rule.
+pub(crate) fn first_mark(rule: MarkRule, servers: &[ServerPart]) -> Option<u32>
+    ensures { MatchOption result (MarksHold (asked_of rule) servers.now)
+        (λ told. (line : ℕ) × MarkBreaks (asked_of rule) servers.now line × (told ≡ told_line line)) }
+{
+    let mut line: u32 = 3;
+    for (k, part) in servers.iter().enumerate() {
+        match first_in(rule, part) {
+            None => line = behind_server(line, part),
+            Some(mark) => return Some(behind(line, mark)),
+        }
+    }
+    None
+}

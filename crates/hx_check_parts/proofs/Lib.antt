@@ -1,0 +1,3 @@
+pub mod EachLemmas
+pub mod TotalsLemmas
+pub mod MarkLemmas

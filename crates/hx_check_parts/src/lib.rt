@@ -1,0 +1,21 @@
+//! The rules by which a transcript is judged, over the parts of it that they speak of.
+#![tactic(auto)]
+
+mod exchanges;
+mod last;
+mod legal;
+mod limit;
+mod links;
+mod mode;
+mod ranges;
+mod samples;
+mod sums;
+mod tiles;
+
+pub use exchanges::{sent_holds, took_holds};
+pub use legal::first_illegal;
+pub use limit::first_past_limit;
+pub use links::{client_gave, client_took, conn_sent, conn_took};
+pub use mode::first_against_mode;
+pub use sums::sums_of;
+pub use tiles::{first_loose_left, first_without_left};

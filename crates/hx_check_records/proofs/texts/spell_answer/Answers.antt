@@ -1,0 +1,8 @@
+use Rattle.hx_session_parts.proofs.GrowthLemmas.{answer_has_room}
+use Rattle.hx_check_records.proofs.texts.spell_answer.Goals as goal
+
+pub unreachable-requires : goal.unreachable-requires
+unreachable-requires c =
+    let stands = c.requires.head.1 in
+    answer_has_room c.args.bytes.now c.args.head.now c.args.closing c.args.out.now _ _ _ c.requires.room c.in-Err.is c.forward_answer.ensures
+    c.requires.head.0 stands.at stands.most
