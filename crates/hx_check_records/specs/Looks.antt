@@ -6,7 +6,8 @@ use Rattle.hx_message.specs.Forwarded.{BeginsRequest, IsInterim, IsFinal}
 use Rattle.hx_message.specs.Limits.{IsShort}
 use Rattle.hx_head.specs.declared.head.RequestHead.{RequestHead}
 use Rattle.hx_head.specs.declared.head.AnswerHead.{AnswerHead}
-use Rattle.hx_head.specs.Heads.{head_limit, IsRequestAt, IsAnswerAt}
+use Rattle.hx_head.specs.Heads.{IsRequestAt, IsAnswerAt}
+use Rattle.hx_message.specs.Limits.{head_limit}
 use Rattle.hx_check_records.specs.declared.looks.AnswerLook.{AnswerLook}
 use Rattle.hx_check_records.specs.declared.looks.AnswerLook.TheVariants.{Interim, Final, Neither}
 
