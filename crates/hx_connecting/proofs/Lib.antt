@@ -9,3 +9,4 @@ pub mod TouchLemmas
 pub mod EachLemmas
 pub mod ParkLemmas
 pub mod HoldLemmas
+pub mod BusyLemmas

@@ -3,7 +3,7 @@ use Rattle.std.proofs.Common.{◌≡◌, ℕ}
 use Rattle.hx_record.specs.declared.served.CutCause.{CutCause}
 use Rattle.hx_session.specs.declared.stage.Came.{Came}
 use Rattle.hx_session.specs.declared.stage.Came.TheVariants.{On, Moved, Ends}
-use Rattle.hx_session.specs.declared.step.Waits.{Waits}
+use Rattle.hx_session.specs.declared.step.Waiting.{Waiting as Waits}
 use Rattle.hx_session.specs.Desks.{DeskNow}
 use Rattle.hx_session.specs.Exchanged.{ExchangeNow}
 use Rattle.hx_session.specs.Stages.{StageNow}

@@ -1,5 +1,5 @@
 -- How an exchange and a session end.
-use Rattle.std.specs.Prelude.{◌≡◌, ℕ, List, Option, Some, None, ⊤}
+use Rattle.std.specs.Prelude.{◌≡◌, ℕ, ◌≤◌, List, [], Option, Some, None, ⊤}
 use Rattle.hx_base.specs.declared.numbers.SessionNo.{SessionNo}
 use Rattle.hx_record.specs.declared.served.CutCause.{CutCause}
 use Rattle.hx_record.specs.declared.served.Kind.TheVariants.{Cut}
@@ -10,7 +10,10 @@ use Rattle.hx_pool.specs.Opening.{HasConn}
 use Rattle.hx_connecting.specs.Closing.{AtSeat, HasHeld}
 use Rattle.hx_session.specs.declared.stage.Came.{Came}
 use Rattle.hx_session.specs.declared.stage.Came.TheVariants.{On, Moved, Ends}
-use Rattle.hx_session.specs.Desks.{DeskNow}
+use Rattle.hx_link.specs.Pipes.{pipe}
+use Rattle.hx_message.specs.OwnAnswer.{HasReason, IsOwnAnswer}
+use Rattle.hx_session.specs.Since.{HasSince}
+use Rattle.hx_session.specs.Desks.{DeskNow, emptied}
 use Rattle.hx_session.specs.Exchanged.{ExchangeNow}
 use Rattle.hx_session.specs.Over.{served_of, carried_of, after_record}
 use Rattle.hx_session.specs.Stages.{StageNow, Reading, Choosing, Exchanging, Answering, Left}
@@ -23,10 +26,25 @@ HasOwn seats n (Exchanging e) = AtSeat seats e.busy.server.0 (λ h. HasConn h n 
 HasOwn seats n (Answering a) = HasHeld seats n a.held
 HasOwn seats n Left = ⊤
 
+-- nothing was given since the last record
+abbrev pub GaveNothing : DeskNow → Type 0
+GaveNothing d = HasSince d.client.sent d.client.sent_count d.gave_from []
+
+-- there is an own answer of that status
+abbrev pub HasOwnText : ℕ → Type 0
+HasOwnText status = (reason : List ℕ) × HasReason status reason
+
+-- the own answer of that status waits for the client, and nothing else waits
+pub record AnswersOwn (old new : DeskNow) (status : ℕ) : Type 0 where
+  pub text : List ℕ
+  pub own : IsOwnAnswer status text
+  pub desk : new ≡ record (emptied old) { to = pipe text old.to.capacity; waits_since = new.waits_since }
+
 -- the record of an exchange that was cut off, and the next one's beginning
 pub record CutsOff (old new : DeskNow) (e : ExchangeNow) (why : CutCause) (s : Served) : Type 0 where
   pub took_to : ℕ
   pub ask_to : ℕ
+  pub within : ask_to ≤ old.taken
   pub served : s ≡ served_of old (Cut (carried_of e took_to) why) ask_to
   pub desk : new ≡ record (after_record old ask_to) { down = new.down }
 

@@ -21,8 +21,8 @@ pub record TurnsFit (config : Meaning) (turns : List ℕ) : Type 0 where
 
 -- the server of a session's connection, and the one that was chosen, are the backend's
 pub record GoesTo (back : Back) (conn : Option Holding) (chosen : Option ServerNo) : Type 0 where
-  pub conn : IfSome conn (λ c. Contains (servers_of back) (conn_server c))
-  pub chosen : IfSome chosen (λ v. Contains (servers_of back) v)
+  pub to_conn : IfSome conn (λ c. Contains (servers_of back) (conn_server c))
+  pub to_chosen : IfSome chosen (λ v. Contains (servers_of back) v)
 
 -- its frontend is the configuration's, and the server that it has chosen or is connected to is one of its backend
 pub record IsRouted (config : Meaning) (s : SessionNow) : Type 0 where

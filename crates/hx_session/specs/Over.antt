@@ -45,6 +45,11 @@ abbrev pub closing_of : AnswerWay → Bool
 closing_of Heads = false
 closing_of (Body b) = b.closing
 
+-- its head was there before the request was wholly sent
+abbrev pub early_of : AnswerWay → Bool
+early_of Heads = false
+early_of (Body b) = b.early
+
 -- what an exchange carried, up to that byte of the connection
 abbrev pub carried_of : ExchangeNow → ℕ → Carried
 carried_of e took_to = record {

@@ -14,6 +14,7 @@ use Rattle.hx_session_parts.specs.declared.asks.Asked.{Asked}
 use Rattle.hx_session_parts.specs.Asks.{IsAsked}
 use Rattle.hx_session.specs.declared.desk.Desk.{Desk}
 use Rattle.hx_session.specs.declared.stage.Choosing.{Choosing as Held}
+use Rattle.hx_session.specs.declared.stage.Answering.{Answering as Own}
 use Rattle.hx_session.specs.declared.stage.Stage.{Stage}
 use Rattle.hx_session.specs.declared.stage.Stage.TheVariants as is
 use Rattle.hx_session.specs.Since.{HasSince}
@@ -42,11 +43,20 @@ pub data StageNow : Type 0 where
 abbrev pub choosing_now : {X : Type 0} → Held X → ChoosingNow
 choosing_now c = record { asked = c.asked; server = c.server; held = c.held }
 
+abbrev pub stage_of_choosing : {X : Type 0} → Held X → StageNow
+stage_of_choosing c = Choosing (choosing_now c)
+
+abbrev pub own_stage : ℕ → Option RestedNow → StageNow
+own_stage status held = Answering (record { status = status; held = held })
+
+abbrev pub stage_of_answering : {X : Type 0} → Own X → StageNow
+stage_of_answering a = own_stage a.status a.held
+
 abbrev pub stage_now : {X : Type 0} → Stage X → StageNow
 stage_now (is.Reading held) = Reading held
-stage_now (is.Choosing c) = Choosing (choosing_now c)
+stage_now (is.Choosing c) = stage_of_choosing c
 stage_now (is.Exchanging e) = Exchanging (exchange_now e)
-stage_now (is.Answering a) = Answering (record { status = a.status; held = a.held })
+stage_now (is.Answering a) = stage_of_answering a
 stage_now is.Left = Left
 
 -- between two requests nothing waits, and what was taken behind the last record is in the pipe

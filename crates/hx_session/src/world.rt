@@ -1,12 +1,14 @@
 //! What a step of a session works with.
 
+use crate::step::Waiting;
 use hx_base::Millis;
 use hx_config::{Back, Front};
 
-/// The session's frontend and backend, at a moment.
+/// The session's frontend and backend, at a moment, and for which link the step had to wait so far.
 #[derive(Clone, Copy)]
 pub(crate) struct Scene<'a> {
     pub front: &'a Front,
     pub back: &'a Back,
     pub now: Millis,
+    pub waits: Waiting,
 }
