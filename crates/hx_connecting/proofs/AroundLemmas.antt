@@ -39,7 +39,7 @@ holds_ext t n c d i (h ∷ seats) same holds = (
 )
 
 -- the seat with number j changed, and the others hold what they held
-holds_set : (t : ThreadNo) (n : SessionNo) (c d : Option Holding) (i j : ℕ) (seats : List History) (old new : History)
+pub holds_set : (t : ThreadNo) (n : SessionNo) (c d : Option Holding) (i j : ℕ) (seats : List History) (old new : History)
     → slice_get seats j ≡ Some old → new.about ≡ old.about → StandsInOneHistory new → HasJust new n (conn_at d (i + j))
     → ((k : ℕ) → i ≤ k → (k ≡ i + j → ⊥) → conn_at d k ≡ conn_at c k) → HoldsConn t n c i seats → HoldsConn t n d i (slice_set seats j new)
 holds_set t n c d i j [] old new there about one just same holds = cc
@@ -71,7 +71,7 @@ holds_here t n c i (suc j) (x ∷ seats) h there holds =
     let r = holds_here t n c (i + 1) j seats h there holds.3 in
     (r.0, r.1, subst (λ (k : ℕ). HasJust h n (conn_at c k)) (omega arith) r.2)
 
-numbered_set : (i j : ℕ) (seats : List History) (old new : History) → slice_get seats j ≡ Some old → new.about ≡ old.about
+pub numbered_set : (i j : ℕ) (seats : List History) (old new : History) → slice_get seats j ≡ Some old → new.about ≡ old.about
     → AreNumbered i seats → AreNumbered i (slice_set seats j new)
 numbered_set i j [] old new there about are = cc
 numbered_set i zero (h ∷ seats) old new there about are =

@@ -63,7 +63,7 @@ in_all (x ∷ backs) zero b k s there at =
     (k, in_left x.servers (all_servers backs) k s (subst (λ (y : Back). slice_get y.servers k ≡ Some s) (sym (some_same x b there)) at))
 in_all (x ∷ backs) (suc i) b k s there at = let r = in_all backs i b k s there at in in_right x.servers (all_servers backs) r.0 s r.1
 
-below : {A : Type 0} (xs : List A) (j : ℕ) (x : A) → slice_get xs j ≡ Some x → j < length xs
+pub below : {A : Type 0} (xs : List A) (j : ℕ) (x : A) → slice_get xs j ≡ Some x → j < length xs
 below [] j x e = cc
 below (y ∷ xs) zero x e = omega arith
 below (y ∷ xs) (suc j) x e = omega (arith, below xs j x e)

@@ -1,6 +1,6 @@
 -- How an exchange begins on a connection, and how one that passed ends.
 use Rattle.std.proofs.Common.{◌≡◌, ◌≤◌, ◌+◌, ℕ, Bool, true, false, not, ◌&&◌, List, [], ◌++◌, length, take, drop, refl, sym, ap, subst, ◌∙◌, inl, inr, append_assoc, arith, Option, Some, None}
-use Rattle.std.specs.Prelude.{IfSome}
+use Rattle.std.specs.Prelude.{IfSome, Contains}
 use Rattle.std.specs.List.{flat_map}
 use Rattle.std.proofs.lemmas.List.{append-nil, length-append, take-append-drop, length-take}
 use Rattle.std.proofs.Math.Seq.{drop-append_seam, take-append_seam}
@@ -24,7 +24,16 @@ use Rattle.hx_session_parts.specs.OnWay.{AreInterimsOnWay}
 use Rattle.hx_session_parts.proofs.OnWayLemmas.{ask_begins}
 use Rattle.hx_session.specs.declared.exchange.AnswerWay.{AnswerWay}
 use Rattle.hx_session.specs.declared.exchange.BodyWay.{BodyWay}
-use Rattle.hx_session.specs.Beginning.{BeginsOn, BeginsExchange}
+use Rattle.hx_pool.specs.Opening.{HasConn}
+use Rattle.hx_pool.specs.SeatView.{History}
+use Rattle.hx_connecting.specs.Around.{HasAround}
+use Rattle.hx_connecting.specs.Closing.{AtSeat}
+use Rattle.hx_connecting.specs.Sessions as seen
+use Rattle.hx_session.specs.Stages.{Exchanging}
+use Rattle.hx_session.specs.Standing.{IsNumbered, IsPlaced, IsRoutedTo}
+use Rattle.hx_config.specs.declared.parts.Back.{Back}
+use Rattle.hx_connecting.specs.Choosing.{servers_of}
+use Rattle.hx_session.specs.Beginning.{BeginsOn, BeginsExchange, ConnectedAt}
 use Rattle.hx_session.specs.Carried.{IsCarried}
 use Rattle.hx_session.specs.Desks.{DeskNow, IsDesk}
 use Rattle.hx_session.specs.Exchanged.{ExchangeNow}
@@ -153,3 +162,24 @@ begins_carried d a busy meter e from' up' between asked on counted begins spells
 
     no_interims : AreInterimsOnWay [] []
     no_interims = ([], refl, refl)
+
+-- the session of an exchange that begins
+pub begun_placed : (d d' : DeskNow) (busy : BusyNow) (e : ExchangeNow) (a : Asked) (meter : Meter) (seats : List History) (from' up' : PipeNow) → d' ≡ record d { from = from'; up = up' } → IsCarried d' e
+    → BeginsOn a busy → BeginsExchange a busy meter e → IsNumbered d → ConnectedAt d busy seats → IsPlaced d' (Exchanging e) seats
+begun_placed d d' busy e a meter seats from' up' is carried on begins n at = record {
+  set = record {
+    stands = carried;
+    numbered = subst IsNumbered (sym is) (record {
+      counted = record { session = n.counted.session; one = n.counted.one; few = n.counted.few; ordered = n.counted.ordered };
+      on_loop = n.on_loop;
+    });
+    around = subst (λ (x : DeskNow). HasAround x.worker x.session (Some (seen.Exchanging e.busy)) seats) (sym is)
+        (subst (λ (b : BusyNow). HasAround d.worker d.session (Some (seen.Exchanging b)) seats) (sym begins.busy_is) at.0);
+    own = subst (λ (x : DeskNow). AtSeat seats e.busy.server.0 (λ h. HasConn h x.session e.busy.id)) (sym is)
+        (subst (λ (b : BusyNow). AtSeat seats b.server.0 (λ h. HasConn h d.session b.id)) (sym begins.busy_is) at.1);
+  };
+  good = subst (λ (b : BusyNow). b.exchange.failed ≡ false) (sym begins.busy_is) (ap (λ (x : Exchange). x.failed) on);
+}
+
+pub begun_routed : (back : Back) (busy : BusyNow) (e : ExchangeNow) → e.busy ≡ busy → Contains (servers_of back) busy.server → IsRoutedTo back (Exchanging e)
+begun_routed back busy e is contains = record { to_conn = subst (λ (b : BusyNow). Contains (servers_of back) b.server) (sym is) contains; to_chosen = tt }

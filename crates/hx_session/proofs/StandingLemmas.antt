@@ -48,8 +48,8 @@ desk_then a b c x y = record {
 pub place_in : (d d' : DeskNow) (seats : List History) (net : NetState) → KeepsDesk d d' → KeepsPlace d d' seats seats net net
 place_in d d' seats net k = record { desk = k; about = refl; loop_no = refl }
 
-pub place_then : (a b c : DeskNow) (as bs cs : List History) (x y z : NetState) → KeepsPlace a b as bs x y → KeepsPlace b c bs cs y z → KeepsPlace a c as cs x z
-place_then a b c as bs cs x y z k l = record { desk = desk_then a b c k.desk l.desk; about = l.about ∙ k.about; loop_no = l.loop_no ∙ k.loop_no }
+pub place_then : (a b c : DeskNow) (xs ys zs : List History) (x y z : NetState) → KeepsPlace a b xs ys x y → KeepsPlace b c ys zs y z → KeepsPlace a c xs zs x z
+place_then a b c xs ys zs x y z k l = record { desk = desk_then a b c k.desk l.desk; about = l.about ∙ k.about; loop_no = l.loop_no ∙ k.loop_no }
 
 -- an own answer that is decided
 pub answers_keep : (d d' : DeskNow) (status : ℕ) → AnswersOwn d d' status → KeepsDesk d d'

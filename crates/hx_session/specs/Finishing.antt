@@ -1,5 +1,5 @@
 -- What an exchange does next, and how one that passed ends.
-use Rattle.std.specs.Prelude.{◌≡◌, ◌⊎◌, ℕ, Bool, true, [], Option, Some, None, ⊤}
+use Rattle.std.specs.Prelude.{◌≡◌, ◌⊎◌, ℕ, ◌+◌, Bool, true, [], length, Option, Some, None, ⊤}
 use Rattle.hx_base.specs.declared.numbers.ServerNo.{ServerNo}
 use Rattle.hx_conn.specs.Conns.{RestedNow, BusyNow}
 use Rattle.hx_conn.specs.Steps.{AnswerIsWhole, answer_ended}
@@ -9,8 +9,10 @@ use Rattle.hx_session.specs.declared.answers.Do.{Do}
 use Rattle.hx_session.specs.declared.answers.Do.TheVariants.{BadAsk, BadAnswer, PassAsk, ClientEnded, LookForHead, PassAnswer, Finish, ServerEnded, Nothing}
 use Rattle.hx_session.specs.declared.exchange.AnswerWay.TheVariants.{Heads, Body}
 use Rattle.hx_session.specs.declared.exchange.BodyWay.{BodyWay}
+use Rattle.hx_session.specs.Carried.{IsCarried}
 use Rattle.hx_session.specs.Desks.{DeskNow}
 use Rattle.hx_session.specs.Exchanged.{ExchangeNow}
+use Rattle.hx_session.specs.Over.{IsOver, after_record}
 
 -- the whole answer went on and was given
 pub record IsAnswerGiven (d : DeskNow) (e : ExchangeNow) : Type 0 where
@@ -51,3 +53,16 @@ EndsAnswer b b' n = (persistent : Bool) × (b' ≡ answer_ended b n persistent)
 abbrev pub RestsTo : ServerNo → Option RestedNow → Type 0
 RestsTo server None = ⊤
 RestsTo server (Some r) = r.server ≡ server
+
+-- the next record begins behind what the pipe from the client holds
+pub record PassesTo (d d' : DeskNow) : Type 0 where
+  pub ask_to : ℕ
+  pub ends : ask_to + length d.from.bytes ≡ d.taken
+  pub desk : d' ≡ after_record d ask_to
+
+-- the exchange was over, at the desk that had it
+pub record WasOver (e : ExchangeNow) : Type 0 where
+  pub desk : DeskNow
+  pub body : BodyWay
+  pub carried : IsCarried desk e
+  pub over : IsOver desk e body

@@ -1,6 +1,6 @@
 //! What a step does in an exchange.
 
-ghost use Rattle.std.specs.Prelude.{◌≡◌, ◌↔◌, ◌+◌, ◌≤◌, ◌||◌, IsTrue, List, map};
+ghost use Rattle.std.specs.Prelude.{◌≡◌, ◌↔◌, ◌+◌, ◌≤◌, ◌||◌, ◌&&◌, not, IsTrue, List, map};
 ghost use Rattle.httparse.specs.Grammar as grammar;
 ghost use Rattle.hx_config.specs.declared.parts.Back.{Back};
 ghost use Rattle.hx_message.specs.declared.BodyKind.TheVariants.{ToEnd};
@@ -13,7 +13,7 @@ ghost use Rattle.hx_session.specs.Desks.{DeskNow, desk_now};
 ghost use Rattle.hx_session.specs.Exchanged.{exchange_now};
 ghost use Rattle.hx_session.specs.Carried.{IsCarried};
 ghost use Rattle.hx_session.specs.Over.{IsOver, IsTold};
-ghost use Rattle.hx_session.specs.Finishing.{MayDo, DoesAtEnd, IsAnswerGiven, EndsAnswer, RestsTo};
+ghost use Rattle.hx_session.specs.Finishing.{MayDo, DoesAtEnd, IsAnswerGiven, WasOver, EndsAnswer, RestsTo};
 ghost use Rattle.hx_session.specs.Passing.{PassesBody, BeginsBody};
 ghost use Rattle.hx_session.specs.Stages.{Reading, Exchanging};
 ghost use Rattle.hx_session.specs.Standing.{IsPlaced, CamePlaced, IsRoutedTo, CameRouted, KeepsDesk, KeepsAsk, IsSameConn, KeepsPlace, Goes};
@@ -364,10 +364,16 @@ fn look_for_head<L: Link, S: Seat<Rested<L>>, N: Net<L = L>>(
     }
 }
 
+/// A connection persists after an answer that says so and doesn't run to the end.
+fn lasts(persists: bool, to_end: bool) -> bool
+    ensures { result ≡ (persists && not to_end) }
+{
+    persists && !to_end
+}
+
 /// The whole answer was taken.
-fn end_answer<L: Link>(desk: &Desk<L>, exchange: Exchange<L>) -> Busy<L>
-    requires carried { IsCarried (desk_now L.state desk.now) (exchange_now exchange) }
-    requires over { (b : BodyWay) × IsOver (desk_now L.state desk.now) (exchange_now exchange) b }
+fn end_answer<L: Link>(exchange: Exchange<L>) -> Busy<L>
+    requires { WasOver (exchange_now exchange) }
     ensures { EndsAnswer exchange.busy result exchange.answered }
 {
     let Exchange {
@@ -377,7 +383,7 @@ fn end_answer<L: Link>(desk: &Desk<L>, exchange: Exchange<L>) -> Busy<L>
         ..
     } = exchange;
     if let AnswerWay::Body(body) = &answer {
-        let persistent = body.persists && !body.to_end;
+        let persistent = lasts(body.persists, body.to_end);
         busy.answer_ends(answered, persistent);
     }
     busy
@@ -399,7 +405,7 @@ fn pass<L: Link, S: Seat<Rested<L>>, N: Net<L = L>>(
     ensures server { RestsTo exchange.busy.server result.1 }
 {
     let served = tell_passed(desk, &exchange);
-    let busy = end_answer(desk, exchange);
+    let busy = end_answer(exchange);
     let held = rest(busy, seats, net, desk.session);
     let unread = desk.down.len();
     desk.down.drop_front(unread);

@@ -19,7 +19,7 @@ returns-clause-answers g c =
     record {
       text = c.own_text.result.now;
       own = c.own_text.ensures;
-      desk = ap (λ (x : DeskNow). record x { to = c.put_text.new.pipe; waits_since = c.wait_start.result }) e
-          ∙ ap (λ (p : PipeNow). record (emptied d) { to = p; waits_since = c.wait_start.result })
+      desk = ap (λ (x : DeskNow). record x { to = c.put_text.new.pipe; waits_since = c.wait_start-desk.result }) e
+          ∙ ap (λ (p : PipeNow). record (emptied d) { to = p; waits_since = c.wait_start-desk.result })
           (c.put_text.ensures ∙ ap (λ (x : DeskNow). pipe c.own_text.result.now x.to.capacity) e);
     }
