@@ -1,5 +1,5 @@
 -- What a step of a session asks of its worker, as the parts of the step need it.
-use Rattle.std.proofs.Common.{◌≡◌, ◌≢◌, ◌≤◌, ◌<◌, ◌+◌, ℕ, zero, suc, Bool, true, false, ◌&&◌, eqb, List, [], ◌∷◌, ◌++◌, length, map, get_or, refl, sym, ap, subst, ◌∙◌, inl, inr, arith, Option, Some, None, ⊎_elim}
+use Rattle.std.proofs.Common.{◌≡◌, ◌≢◌, ◌≤◌, ◌<◌, ◌+◌, ℕ, zero, suc, Bool, true, false, ◌&&◌, not, eqb, List, [], ◌∷◌, ◌++◌, length, map, get_or, refl, sym, ap, subst, ◌∙◌, inl, inr, arith, Option, Some, None, ⊎_elim, ◌⊎◌}
 use Rattle.std.specs.Prelude.{IfSome, Contains, ⊤, ◌==◌}
 use Rattle.std.specs.List.{slice_get, flat_map, list_all}
 use Rattle.std.proofs.lemmas.Bool.{eqb-true}
@@ -12,21 +12,26 @@ use Rattle.hx_base.specs.declared.rules.Mode.TheVariants.{Never}
 use Rattle.hx_config.specs.declared.parts.Back.{Back}
 use Rattle.hx_config.specs.declared.parts.Front.{Front}
 use Rattle.hx_config.specs.declared.parts.Server.{Server}
-use Rattle.hx_config.specs.Limits.{all_servers, are_numbered}
+use Rattle.hx_config.specs.Limits.{all_servers, are_numbered, are_served, serves}
+use Rattle.std.proofs.lemmas.List.{length-append}
 use Rattle.hx_config.specs.Meaning.{Meaning}
 use Rattle.hx_conn.specs.Conns.{RestedNow, BusyNow}
 use Rattle.hx_pool.specs.Opening.{HasConn}
 use Rattle.hx_pool.specs.SeatView.{About, History, StandsInOneHistory}
 use Rattle.hx_pool.specs.Table.{face_of}
 use Rattle.hx_pool.proofs.Owning.{just_has}
-use Rattle.hx_connecting.specs.Around.{ConnOnLoop, AreNumbered, RestsAtNever, HasAround, abouts}
+use Rattle.hx_connecting.specs.Around.{ConnOnLoop, AreNumbered, RestsAtNever, HasAround, abouts, resting}
 use Rattle.hx_connecting.specs.Choice.{HaveSeats}
 use Rattle.hx_connecting.specs.Choosing.{servers_of}
-use Rattle.hx_connecting.specs.Closing.{AtSeat}
+use Rattle.hx_connecting.specs.Closing.{AtSeat, HasHeld}
 use Rattle.hx_connecting.specs.Holds.{HasJust, HoldsConn}
 use Rattle.hx_connecting.specs.Sessions as seen
 use Rattle.hx_connecting.proofs.AroundLemmas.{just_here, one_here}
-use Rattle.hx_session.specs.Fits.{SeatsServe, RestsUnderNever, GoesTo}
+use Rattle.hx_session.specs.Desks.{DeskNow}
+use Rattle.hx_session.specs.Stages.{StageNow, Reading, Choosing, Exchanging, Answering, Left}
+use Rattle.hx_session.specs.Seen.{conn_seen, chosen_seen, unless_held, session_seen}
+use Rattle.hx_session.specs.Standing.{IsSound, IsPlaced, IsRoutedTo, GoesToHeld}
+use Rattle.hx_session.specs.Fits.{SeatsServe, RestsUnderNever, GoesTo, IsGoing}
 
 and_left : (a b : Bool) → (a && b) ≡ true → a ≡ true
 and_left true b e = refl
@@ -158,3 +163,89 @@ conn_own t n c seats a low =
     got [] j low = absurd (omega (arith, low))
     got (h ∷ hs) zero low = (h, refl)
     got (h ∷ hs) (suc j) low = got hs j (omega (arith, low))
+
+-- a backend has no more servers than there are
+pub few_servers : (backs : List Back) (i : ℕ) (b : Back) → slice_get backs i ≡ Some b → length b.servers ≤ length (all_servers backs)
+few_servers [] i b there = cc
+few_servers (x ∷ backs) zero b there =
+    omega (arith, ap (λ (y : Back). length y.servers) (some_same x b there), length-append x.servers (all_servers backs))
+few_servers (x ∷ backs) (suc i) b there = omega (arith, few_servers backs i b there, length-append x.servers (all_servers backs))
+
+-- a frontend's backend has a server
+pub some_server : (fronts : List Front) (backs : List Back) (i : ℕ) (f : Front) (b : Back) → are_served fronts backs ≡ true → slice_get fronts i ≡ Some f → slice_get backs f.back ≡ Some b → 1 ≤ length b.servers
+some_server [] backs i f b served there back = cc
+some_server (x ∷ fronts) backs zero f b served there back =
+    let first : serves (slice_get backs x.back) ≡ true = and_left (serves (slice_get backs x.back)) (are_served fronts backs) served in
+    let at : slice_get backs x.back ≡ Some b = ap (λ (y : Front). slice_get backs y.back) (some_same x f there) ∙ back in
+    has_one (length b.servers) (subst (λ (o : Option Back). serves o ≡ true) at first)
+  where
+    has_one : (n : ℕ) → not (n == 0) ≡ true → 1 ≤ n
+    has_one zero e = cc
+    has_one (suc n) e = omega arith
+some_server (x ∷ fronts) backs (suc i) f b served there back =
+    some_server fronts backs i f b (and_right (serves (slice_get backs x.back)) (are_served fronts backs) served) there back
+
+pub turn_low : (n t : ℕ) → (t < n) ⊎ (t ≡ 0) → 1 ≤ n → t < n
+turn_low n t fits some = ⊎_elim (λ low. low) (λ none. omega (arith, none, some)) fits
+
+conn_low : (b : Back) (c : Option seen.Holding) (n : ℕ) → HaveSeats b.servers n → IfSome c (λ x. Contains (servers_of b) (seen.conn_server x)) → IfSome c (λ x. (seen.conn_server x).0 < n)
+conn_low b None n have r = tt
+conn_low b (Some x) n have r = routed_seat b (seen.conn_server x) n have r
+
+entry_around : (config : Meaning) (t : ThreadNo) (n : SessionNo) (c : Option seen.Holding) (seats : List History) → are_numbered 0 (all_servers config.backs) ≡ true → SeatsServe t seats (all_servers config.backs)
+    → HoldsConn t n c 0 seats → RestsUnderNever config c → ConnOnLoop t c → (b : Back) → HaveSeats b.servers (length seats) → IfSome c (λ x. Contains (servers_of b) (seen.conn_server x)) → HasAround t n c seats
+entry_around config t n c seats numbered serves holds never loop b have to_conn = record {
+  loop = loop;
+  never = never_at t config c seats serves (conn_low b c (length seats) have to_conn) never;
+  servers = serves_numbered t 0 seats (all_servers config.backs) numbered serves;
+  holds = holds;
+}
+
+entry_held : (t : ThreadNo) (n : SessionNo) (held : Option RestedNow) (seats : List History) → HasAround t n (resting held) seats → (b : Back) → HaveSeats b.servers (length seats)
+    → IfSome (resting held) (λ x. Contains (servers_of b) (seen.conn_server x)) → HasHeld seats n held
+entry_held t n None seats a b have to_conn = tt
+entry_held t n (Some r) seats a b have to_conn = conn_own t n (seen.Resting r) seats a (routed_seat b r.server (length seats) have to_conn)
+
+-- a session that goes on, as the parts of a step find it
+pub entry_placed : (config : Meaning) (front : ℕ) (d : DeskNow) (s : StageNow) (seats : List History) → are_numbered 0 (all_servers config.backs) ≡ true → IsSound d s → IsGoing config (session_seen front d s)
+    → SeatsServe d.worker seats (all_servers config.backs) → HoldsConn d.worker d.session (conn_seen s) 0 seats → (b : Back) → HaveSeats b.servers (length seats) → GoesTo b (conn_seen s) (chosen_seen s) → IsPlaced d s seats
+entry_placed config front d (Reading held) seats numbered sound going serves holds b have goes =
+    let around = entry_around config d.worker d.session (resting held) seats numbered serves holds going.never going.loops.conn b have (goes.to_conn) in
+    record { set = record { stands = sound.0; numbered = record { counted = sound.2; on_loop = going.loops.client }; around = around; own = entry_held d.worker d.session held seats around b have goes.to_conn }; good = sound.1 }
+entry_placed config front d (Choosing c) seats numbered sound going serves holds b have goes =
+    let around = entry_around config d.worker d.session (resting c.held) seats numbered serves holds going.never going.loops.conn b have (goes.to_conn) in
+    record { set = record { stands = sound.0; numbered = record { counted = sound.2; on_loop = going.loops.client }; around = around; own = entry_held d.worker d.session c.held seats around b have goes.to_conn }; good = sound.1 }
+entry_placed config front d (Exchanging e) seats numbered sound going serves holds b have goes =
+    let around = entry_around config d.worker d.session (Some (seen.Exchanging e.busy)) seats numbered serves holds going.never going.loops.conn b have (goes.to_conn) in
+    record {
+      set = record { stands = sound.0; numbered = record { counted = sound.2; on_loop = going.loops.client }; around = around;
+          own = conn_own d.worker d.session (seen.Exchanging e.busy) seats around (routed_seat b e.busy.server (length seats) have goes.to_conn) };
+      good = sound.1;
+    }
+entry_placed config front d (Answering a) seats numbered sound going serves holds b have goes =
+    let around = entry_around config d.worker d.session (resting a.held) seats numbered serves holds going.never going.loops.conn b have (goes.to_conn) in
+    record { set = record { stands = sound.0; numbered = record { counted = sound.2; on_loop = going.loops.client }; around = around; own = entry_held d.worker d.session a.held seats around b have goes.to_conn }; good = sound.1 }
+entry_placed config front d Left seats numbered sound going serves holds b have goes = absurd (true_false going.going)
+  where
+    true_false : true ≡ false → ⊥
+    true_false e = cc
+
+-- its server, whether or not its connection rests with it
+pub entry_routed : (b : Back) (d : DeskNow) (s : StageNow) → IsSound d s → GoesTo b (conn_seen s) (chosen_seen s) → IsRoutedTo b s
+entry_routed b d (Reading held) sound g = g
+entry_routed b d (Choosing c) sound g = record { to_conn = g.to_conn; to_chosen = by_held c.held c.server sound.1 g.to_conn g.to_chosen }
+  where
+    by_held : (held : Option RestedNow) (v : Option ServerNo) → GoesToHeld held v → IfSome (resting held) (λ x. Contains (servers_of b) (seen.conn_server x)) → IfSome (unless_held held v) (λ x. Contains (servers_of b) x)
+        → IfSome v (λ x. Contains (servers_of b) x)
+    by_held None v good conn chosen = chosen
+    by_held (Some r) v good conn chosen = subst (λ (o : Option ServerNo). IfSome o (λ x. Contains (servers_of b) x)) (sym good) conn
+entry_routed b d (Exchanging e) sound g = record { to_conn = g.to_conn; to_chosen = tt }
+entry_routed b d (Answering a) sound g = record { to_conn = g.to_conn; to_chosen = tt }
+entry_routed b d Left sound g = record { to_conn = tt; to_chosen = tt }
+
+-- the same, from what a worker keeps
+pub entry_all : (config : Meaning) (front : ℕ) (d : DeskNow) (s : StageNow) (seats : List History) → are_numbered 0 (all_servers config.backs) ≡ true → IsSound d s → IsGoing config (session_seen front d s)
+    → SeatsServe d.worker seats (all_servers config.backs) → HoldsConn d.worker d.session (conn_seen s) 0 seats → IsPlaced d s seats
+entry_all config front d s seats numbered sound going serves holds =
+    let r = going.routed in
+    entry_placed config front d s seats numbered sound going serves holds r.back (have_seats d.worker config.backs r.front.back r.back seats numbered r.back_is serves) r.goes

@@ -38,27 +38,27 @@ gate_just old new n ready (Some c) k just =
     (just.0, held_apart old new n (plain (Gate old.about.thread (not ready)) ∷ []) k.makes (tt, tt) ∙ just.1,
     λ ne. just.2 (λ e. ne (ap (λ (a : About). a.rules.mode) k.makes.about ∙ e)))
 
+heads : (a b : About) (xs ys : List About) → a ∷ xs ≡ b ∷ ys → a ≡ b
+heads a b xs ys e = cc
+
+tails : (a b : About) (xs ys : List About) → a ∷ xs ≡ b ∷ ys → xs ≡ ys
+tails a b xs ys e = cc
+
+one_history : (a b : History) → Some a ≡ Some b → a ≡ b
+one_history a b e = cc
+
+never_seat : (olds news : List History) (j : ℕ) → abouts news ≡ abouts olds → AtSeat olds j (λ h. h.about.rules.mode ≡ Never) → AtSeat news j (λ h. h.about.rules.mode ≡ Never)
+never_seat [] news j same (h, there, mode) = cc
+never_seat (o ∷ olds) [] j same k = cc
+never_seat (o ∷ olds) (h ∷ news) zero same (x, there, mode) =
+    (h, refl, ap (λ (a : About). a.rules.mode) (heads h.about o.about (abouts news) (abouts olds) same) ∙ (ap (λ (y : History). y.about.rules.mode) (one_history o x there) ∙ mode))
+never_seat (o ∷ olds) (h ∷ news) (suc j) same k = never_seat olds news j (tails h.about o.about (abouts news) (abouts olds) same) k
+
 -- a connection rests where it did
 pub never_again : (olds news : List History) (c : Option seen.Holding) → abouts news ≡ abouts olds → RestsAtNever olds c → RestsAtNever news c
 never_again olds news None same k = tt
 never_again olds news (Some (seen.Exchanging b)) same k = tt
-never_again olds news (Some (seen.Resting r)) same k = again olds news r.server.0 same k
-  where
-    again : (olds news : List History) (j : ℕ) → abouts news ≡ abouts olds → AtSeat olds j (λ h. h.about.rules.mode ≡ Never) → AtSeat news j (λ h. h.about.rules.mode ≡ Never)
-    again [] news j same k = cc
-    again (o ∷ olds) [] j same k = cc
-    again (o ∷ olds) (h ∷ news) zero same k =
-        (h, refl, ap (λ (a : About). a.rules.mode) (heads h.about o.about (abouts news) (abouts olds) same) ∙ (ap (λ (x : History). x.about.rules.mode) (one o k.0 k.1) ∙ k.2))
-    again (o ∷ olds) (h ∷ news) (suc j) same k = again olds news j (tails h.about o.about (abouts news) (abouts olds) same) k
-
-    heads : (a b : About) (xs ys : List About) → a ∷ xs ≡ b ∷ ys → a ≡ b
-    heads a b xs ys e = cc
-
-    tails : (a b : About) (xs ys : List About) → a ∷ xs ≡ b ∷ ys → xs ≡ ys
-    tails a b xs ys e = cc
-
-    one : (a b : History) → Some a ≡ Some b → a ≡ b
-    one a b e = cc
+never_again olds news (Some (seen.Resting r)) same k = never_seat olds news r.server.0 same k
 
 gate_around : (t : ThreadNo) (n : SessionNo) (c : Option seen.Holding) (j : ℕ) (olds : List History) (old new : History) (ready : Bool) → slice_get olds j ≡ Some old → ReadsGate old new ready
     → HasAround t n c olds → HasAround t n c (slice_set olds j new)
@@ -111,9 +111,6 @@ about_length [] [] e = refl
 about_length [] (h ∷ news) e = cc
 about_length (o ∷ olds) [] e = cc
 about_length (o ∷ olds) (h ∷ news) e = omega (arith, about_length olds news (tails h.about o.about (abouts news) (abouts olds) e))
-  where
-    tails : (a b : About) (xs ys : List About) → a ∷ xs ≡ b ∷ ys → xs ≡ ys
-    tails a b xs ys e = cc
 
 held_again : (t : ThreadNo) (n : SessionNo) (held : Option RestedNow) (olds news : List History) → length news ≡ length olds → HasHeld olds n held → HasAround t n (resting held) news → HasHeld news n held
 held_again t n None olds news size own a = tt

@@ -9,7 +9,7 @@ use Rattle.hx_conn.specs.Conns.{RestedNow}
 use Rattle.hx_link.specs.Nets.{NetState}
 use Rattle.hx_pool.specs.SeatView.{History}
 use Rattle.hx_record.specs.declared.served.Served.{Served}
-use Rattle.hx_connecting.specs.Around.{HasAround, resting}
+use Rattle.hx_connecting.specs.Around.{HasAround, abouts, resting}
 use Rattle.hx_connecting.specs.Choosing.{servers_of}
 use Rattle.hx_connecting.specs.Closing.{HasHeld}
 use Rattle.hx_connecting.specs.Sessions as seen
@@ -28,7 +28,7 @@ use Rattle.hx_session.specs.Exchanged.{ExchangeNow}
 use Rattle.hx_session.specs.Fits.{GoesTo}
 use Rattle.hx_session.specs.Seen.{conn_seen}
 use Rattle.hx_session.specs.Stages.{StageNow, Reading, Choosing, Exchanging, Answering, Left, StandsSo, IsBetween, own_stage, stage_now}
-use Rattle.hx_session.specs.Standing.{CamePlaced, CameRouted, Goes, ComesTo, IsNumbered, IsSet, IsPlaced, KeepsDesk, KeepsAsk, KeepsPlace, IsSameConn, IsRoutedTo, server_of}
+use Rattle.hx_session.specs.Standing.{CamePlaced, CameRouted, Goes, ComesTo, IsNumbered, IsSet, IsPlaced, KeepsDesk, KeepsAsk, KeepsPlace, KeepsOver, IsSameConn, IsRoutedTo, server_of}
 use Rattle.hx_session.proofs.StandingLemmas.{place_in, place_then, desk_none, answers_keep, answers_set, placed_on, set_on}
 
 -- the same stage at a desk whose client's link made a call
@@ -114,3 +114,14 @@ gave_placed d d' s now m seats desk g p = placed_desk d d' s seats p (gives_keep
 
 pub took_placed : (d d' : DeskNow) (s : StageNow) (now : ℕ) (m : Move) (seats : List History) → IsDesk d' → ReadsClient d d' now m → WantsClient s → IsPlaced d s seats → IsPlaced d' s seats
 took_placed d d' s now m seats desk g wants p = placed_desk d d' s seats p (reads_keep d d' now m g) (reads_stand d d' s now m desk g wants p.set.stands)
+
+-- a step behind its parts
+pub place_turn : (a b : DeskNow) (xs ys zs : List History) (x y : NetState) → KeepsPlace a b xs ys x y → abouts zs ≡ abouts ys → KeepsPlace a b xs zs x y
+place_turn a b xs ys zs x y k e = record { desk = k.desk; about = e ∙ k.about; loop_no = k.loop_no }
+
+pub over_then : (a b c : DeskNow) (xs ys zs : List History) (x y z : NetState) → KeepsPlace a b xs ys x y → KeepsOver b c ys zs y z → KeepsOver a c xs zs x z
+over_then a b c xs ys zs x y z k l = record {
+  who = record { worker = l.who.worker ∙ k.desk.who.worker; session = l.who.session ∙ k.desk.who.session; since = l.who.since ∙ k.desk.who.since };
+  about = l.about ∙ k.about;
+  loop_no = l.loop_no ∙ k.loop_no;
+}

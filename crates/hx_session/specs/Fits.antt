@@ -1,10 +1,10 @@
 -- What a session asks of its worker between calls, and keeps.
-use Rattle.std.specs.Prelude.{◌≡◌, ◌⊎◌, ℕ, ◌<◌, false, List, [], ◌∷◌, length, Contains, Option, Some, None, IfSome, slice_get, ⊤}
+use Rattle.std.specs.Prelude.{◌≡◌, ◌⊎◌, ℕ, ◌<◌, true, false, List, [], ◌∷◌, length, Contains, Option, Some, None, IfSome, slice_get, ⊤}
 use Rattle.hx_base.specs.declared.numbers.ThreadNo.{ThreadNo}
 use Rattle.hx_base.specs.declared.numbers.ServerNo.{ServerNo}
 use Rattle.hx_base.specs.declared.rules.Mode.TheVariants.{Never}
 use Rattle.hx_config.specs.Meaning.{Meaning}
-use Rattle.hx_config.specs.Limits.{all_servers}
+use Rattle.hx_config.specs.Limits.{all_servers, are_numbered}
 use Rattle.hx_config.specs.declared.parts.Server.{Server}
 use Rattle.hx_config.specs.declared.parts.Front.{Front}
 use Rattle.hx_config.specs.declared.parts.Back.{Back}
@@ -66,3 +66,10 @@ limits_with f b = record { client = None; keep_alive = None; connect = None; ser
 abbrev pub limits_of : Meaning → ℕ → Limits
 limits_of config front =
     limits_with (slice_get config.fronts front) (back_at config (back_no (slice_get config.fronts front)))
+
+-- what holds of a session and its seats under some configuration, that of its worker
+pub record FitsSome (s : SessionNow) (seats : List History) : Type 0 where
+  pub config : Meaning
+  pub numbered : are_numbered 0 (all_servers config.backs) ≡ true
+  pub going : IsGoing config s
+  pub serves : SeatsServe s.worker seats (all_servers config.backs)

@@ -6,6 +6,7 @@ ghost use Rattle.hx_link.specs.Pipes.{pipe as a_pipe};
 ghost use Rattle.hx_message.specs.OwnAnswer.{IsOwnAnswer};
 ghost use Rattle.hx_pool.specs.SeatView.{History};
 ghost use Rattle.hx_record.specs.declared.served.Kind.TheVariants as kind;
+ghost use Rattle.hx_record.specs.declared.served.LeftCause.TheVariants as left_cause;
 ghost use Rattle.hx_base.specs.declared.numbers.ThreadNo.{ThreadNo};
 ghost use Rattle.hx_connecting.specs.Around.{HasAround, abouts};
 ghost use Rattle.hx_connecting.specs.Closing.{ClosesAt};
@@ -16,7 +17,7 @@ ghost use Rattle.hx_session.specs.Exchanged.{exchange_now};
 ghost use Rattle.hx_session.specs.Over.{served_of, after_record};
 ghost use Rattle.hx_session.specs.Stages.{Exchanging, StandsSo, own_stage, stage_of_answering, stage_now};
 ghost use Rattle.hx_session.specs.Ending.{CutsOff, EndsInCut, HasOwnText, AnswersOwn};
-ghost use Rattle.hx_session.specs.Standing.{IsCounted, IsPlaced, IsSet, Goes};
+ghost use Rattle.hx_session.specs.Standing.{IsCounted, IsLeaving, IsPlaced, IsSet, KeepsPlace, Goes};
 ghost use Rattle.hx_link.specs.Told.{most_bytes};
 
 use crate::cuts::{answer_end, ask_end};
@@ -258,5 +259,55 @@ pub(crate) fn leave_or_cut<L: Link, S: Seat<Rested<L>>, N: Net<L = L>>(
         Stage::Choosing(Choosing { held, .. }) => leave(left, held),
         Stage::Answering(answering) => leave_answering(desk, answering, left),
         Stage::Left => Came::Moved(Stage::Left, Waiting::Nothing, None),
+    }
+}
+
+/// What a stop makes of the stage: the record of what was under way, and what the session still holds.
+pub(crate) fn stop_stage<L: Link, S: Seat<Rested<L>>, N: Net<L = L>>(
+    desk: &mut Desk<L>,
+    stage: Stage<L>,
+    seats: &mut [S],
+    net: &mut N,
+) -> Ending<L>
+    requires placed { IsPlaced (desk_now L.state desk.old) (stage_now stage) (map S.history seats.old) }
+    ensures leaving { IsLeaving (desk_now L.state desk.new) result.held (map S.history seats.new) }
+    ensures keeps { KeepsPlace (desk_now L.state desk.old) (desk_now L.state desk.new) (map S.history seats.old) (map S.history seats.new)
+        (N.state net.old) (N.state net.new) }
+    ensures client { L.state desk.new.client ≡ L.state desk.old.client }
+    ensures cause { result.cause ≡ left_cause.Stop }
+{
+    let cause = LeftCause::Stop;
+    match stage {
+        Stage::Reading(held) => Ending {
+            cause,
+            held,
+            served: None,
+        },
+        Stage::Choosing(Choosing { held, .. }) => Ending {
+            cause,
+            held,
+            served: None,
+        },
+        Stage::Answering(Answering { status, held }) => {
+            let served = Some(tell_own(desk, status));
+            Ending {
+                cause,
+                held,
+                served,
+            }
+        }
+        Stage::Exchanging(exchange) => {
+            let served = Some(cut_off(desk, exchange, seats, net, CutCause::Stop));
+            Ending {
+                cause,
+                held: None,
+                served,
+            }
+        }
+        Stage::Left => Ending {
+            cause,
+            held: None,
+            served: None,
+        },
     }
 }

@@ -1,6 +1,6 @@
 //! The parts of a step, in their order.
 
-ghost use Rattle.std.specs.Prelude.{◌≡◌, ◌↔◌, ◌<◌, ◌≤◌, IsTrue, List, length, map, false};
+ghost use Rattle.std.specs.Prelude.{◌≡◌, ◌↔◌, ◌<◌, ◌≤◌, IsTrue, List, length, map, false, None};
 ghost use Rattle.hx_config.specs.declared.parts.Back.{Back};
 ghost use Rattle.hx_link.specs.Nets.{NetState};
 ghost use Rattle.hx_pool.specs.SeatView.{History};
@@ -10,8 +10,8 @@ ghost use Rattle.hx_session.specs.Desks.{DeskNow, desk_now};
 ghost use Rattle.hx_session.specs.Exchanged.{exchange_now};
 ghost use Rattle.hx_session.specs.Ending.{HasOwnText};
 ghost use Rattle.hx_session.specs.declared.moves.Move.TheVariants.{Failed};
-ghost use Rattle.hx_session.specs.Stages.{Reading, Exchanging, StandsSo, IsBetween, stage_now, stage_of_answering, stage_of_choosing};
-ghost use Rattle.hx_session.specs.Standing.{IsCounted, IsPlaced, CamePlaced, IsRoutedTo, CameRouted, KeepsPlace, KeepsOver, Goes, IsDone, IsLeaving, IsSet};
+ghost use Rattle.hx_session.specs.Stages.{Left as Gone, Reading, Exchanging, StandsSo, IsBetween, stage_now, stage_of_answering, stage_of_choosing};
+ghost use Rattle.hx_session.specs.Standing.{IsCounted, IsPlaced, CamePlaced, IsRoutedTo, CameRouted, KeepsPlace, KeepsOver, Goes, IsDone, IsGone, IsLeaving, IsSet};
 ghost use Rattle.hx_session.specs.Still.{WantsClient};
 
 use crate::answers::{At, go_on};
@@ -483,7 +483,24 @@ fn move_from_server<L: Link, S: Seat<Rested<L>>, N: Net<L = L>>(
     read_some(desk, exchange, seats, net, At { now, waits })
 }
 
-/// The session leaves: what it holds is closed, and its client's link is attached to no loop.
+/// What a session that leaves holds is closed, and its client's link is attached to no loop.
+pub(crate) fn let_go<L: Link, S: Seat<Rested<L>>, N: Net<L = L>>(
+    desk: &mut Desk<L>,
+    held: Option<Rested<L>>,
+    seats: &mut [S],
+    net: &mut N,
+)
+    requires leaving { IsLeaving (desk_now L.state desk.old) held (map S.history seats.old) }
+    ensures gone { IsGone (desk_now L.state desk.new) (map S.history seats.new) }
+    ensures client { L.state desk.new.client ≡ record (L.state desk.old.client) { on_loop = None } }
+    ensures keeps { KeepsOver (desk_now L.state desk.old) (desk_now L.state desk.new) (map S.history seats.old) (map S.history seats.new)
+        (N.state net.old) (N.state net.new) }
+{
+    close_any(seats, net, desk.session, held);
+    net.detach(&mut desk.client);
+}
+
+/// The session leaves.
 fn give_left<L: Link, S: Seat<Rested<L>>, N: Net<L = L>>(
     desk: &mut Desk<L>,
     ending: Ending<L>,
@@ -491,6 +508,7 @@ fn give_left<L: Link, S: Seat<Rested<L>>, N: Net<L = L>>(
     net: &mut N,
 ) -> Done<L>
     requires leaving { IsLeaving (desk_now L.state desk.old) ending.held (map S.history seats.old) }
+    ensures stage { stage_now result.stage ≡ Gone }
     ensures done { IsDone (desk_now L.state desk.new) (stage_now result.stage) (map S.history seats.new) result.waits result.left }
     ensures keeps { KeepsOver (desk_now L.state desk.old) (desk_now L.state desk.new) (map S.history seats.old) (map S.history seats.new)
         (N.state net.old) (N.state net.new) }
@@ -500,8 +518,7 @@ fn give_left<L: Link, S: Seat<Rested<L>>, N: Net<L = L>>(
         held,
         served,
     } = ending;
-    close_any(seats, net, desk.session, held);
-    net.detach(&mut desk.client);
+    let_go(desk, held, seats, net);
     let left = Some(desk.leave(cause));
     Done {
         stage: Stage::Left,
