@@ -4,6 +4,7 @@ pub mod Endings
 pub mod Finishing
 pub mod Lexing
 pub mod ReadLines
+pub mod Servers
 pub mod Soundness
 pub mod Values
 pub mod Whole

@@ -1,8 +1,9 @@
 -- Each line keeps the limits and the numbers of the servers.
 use Rattle.std.proofs.Common.{◌≡◌, ℕ, ◌+◌, ◌<◌, ◌≤◌, Bool, true, false, List, [], ◌∷◌, ◌++◌, length, map, Some, Result, Ok, Err, refl, sym, ap, ◌∙◌, append_assoc, arith}
-use Rattle.std.specs.Prelude.{IfOk, is_err, ⊤, ◌&&◌, ◌==◌, nat_le, cond, if◌then◌else◌, codes}
+use Rattle.std.specs.Prelude.{IfOk, is_err, ⊤, ◌&&◌, ◌||◌, ◌==◌, nat_le, cond, if◌then◌else◌, codes}
+use Rattle.std.specs.List.{list_all}
 use Rattle.std.proofs.lemmas.List.{append-nil, length-append, length-map}
-use Rattle.std.proofs.lemmas.Bool.{and_parts, and_from, eq-eqb, leb-true, leb-false, le-leb, or_parts}
+use Rattle.std.proofs.lemmas.Bool.{and_parts, and_from, eq-eqb, leb-true, leb-false, le-leb, or_parts, or_left, or_right}
 use Rattle.hx_base.specs.declared.rules.Mode.{Mode}
 use Rattle.std.proofs.lemmas.Result.{IfOk-at_ok}
 use Rattle.hx_config.specs.declared.fault.Rule.{Rule}
@@ -30,10 +31,11 @@ use Rattle.hx_base.specs.declared.address.Address.{Address}
 use Rattle.hx_config.specs.Addresses.{server_address, bind_address, name_of}
 use Rattle.hx_config.specs.Keywords.{found, is_one_of, first_word}
 use Rattle.hx_config.specs.Options.{chosen_by}
-use Rattle.hx_config.specs.Limits.{are_numbered}
+use Rattle.hx_base.specs.Names.{is_name}
+use Rattle.hx_config.specs.Limits.{are_numbered, are_servers_named, has_names}
 use Rattle.hx_config.specs.Numbers.{number_in, is_number, value, time_of}
 use Rattle.hx_config.specs.Sections.{has_front, has_back, with_mode, front_of, back_of, closed, nothing_read, passing, with_values, empty_section, usual_values, first_values, has_server_named, is_double, is_full}
-use Rattle.hx_config.specs.Sound.{one_if, ended_servers, servers_so_far, few_binds, IsSound}
+use Rattle.hx_config.specs.Sound.{one_if, ended_servers, servers_so_far, few_binds, HasNames, IsSound}
 use Rattle.hx_config.specs.Statements as means
 use Rattle.hx_config.specs.Meaning.{located, lines_read}
 
@@ -51,6 +53,7 @@ kept_passing line r h = record {
   numbered = h.numbered;
   count = h.count;
   few = h.few;
+  names = h.names;
   stray = h.stray;
 }
 
@@ -64,6 +67,7 @@ kept_values v r h = record {
   numbered = h.numbered;
   count = h.count;
   few = h.few;
+  names = h.names;
   stray = h.stray;
 }
 
@@ -132,6 +136,38 @@ more_count true backs s n none each =
     ∙ sym (length-append (ended_servers backs) s.servers) ∙ each
 more_count false backs s n none each = ap (λ (ss : List Server). length (ended_servers backs ++ ss)) (sym (none refl)) ∙ each
 
+-- names
+
+all_pushed : {A : Type 0} (p : A → Bool) (xs : List A) (x : A) → list_all p xs ≡ true → p x ≡ true → list_all p (xs ++ x ∷ []) ≡ true
+all_pushed p [] x each here = and_from _ _ here refl
+all_pushed p (y ∷ ys) x each here = let parts = and_parts (p y) (list_all p ys) each in and_from _ _ parts.0 (all_pushed p ys x parts.1 here)
+
+all_more : {A : Type 0} (p : A → Bool) (b : Bool) (xs : List A) (x : A) → list_all p xs ≡ true → (b ≡ true → p x ≡ true) → list_all p (cond b (xs ++ x ∷ []) xs) ≡ true
+all_more p true xs x each here = all_pushed p xs x each (here refl)
+all_more p false xs x each here = each
+
+modes_named : (m : Mode) (ss : List Server) → are_servers_named (map (with_mode m) ss) ≡ are_servers_named ss
+modes_named m [] = refl
+modes_named m (s ∷ ss) = ap (λ (b : Bool). is_name s.name && b) (modes_named m ss)
+
+back_names : (s : Section) → is_name s.name ≡ true → are_servers_named s.servers ≡ true → has_names (back_of s).back ≡ true
+back_names s name servers = and_from _ _ name (modes_named s.values.rules.mode s.servers ∙ servers)
+
+closed_names : (r : Reading) → HasNames r.fronts r.backs r.current.kind r.current.name r.current.servers
+    → HasNames (closed r).fronts (closed r).backs (closed r).current.kind (closed r).current.name (closed r).current.servers
+closed_names r h = record {
+  fronts_named = all_more (λ (f : Frontend). is_name f.name) (has_front r.current.kind) r.fronts (front_of r.current) h.fronts_named
+      (λ e. h.current_named (or_left _ _ e));
+  backs_named = all_more (λ (b : Backend). has_names b.back) (has_back r.current.kind) r.backs (back_of r.current) h.backs_named
+      (λ e. back_names r.current (h.current_named (or_right (has_front r.current.kind) _ e)) h.servers_named);
+  current_named = λ e. absurd (let never : false ≡ true = e in cc);
+  servers_named = refl;
+}
+
+-- a section of this kind has this name
+abbrev IsCalled : Kind → List ℕ → Type 0
+IsCalled k name = (has_front k || has_back k) ≡ true → is_name name ≡ true
+
 pub closed_sound : (r : Reading) → IsSound r → IsSound (closed r)
 closed_sound r h = record {
   threads = h.threads;
@@ -142,6 +178,7 @@ closed_sound r h = record {
   numbered = more_numbers (has_back r.current.kind) r.backs r.current h.stray h.numbered;
   count = more_count (has_back r.current.kind) r.backs r.current r.servers h.stray h.count;
   few = h.few;
+  names = closed_names r h.names;
   stray = λ e. refl;
 }
 
@@ -151,9 +188,9 @@ room_for : (b : Bool) (n : ℕ) → (b && nat_le 16 n) ≡ false → n + 0 ≤ 1
 room_for true n room few = let lt : n < 16 = leb-false 16 n room in omega arith
 room_for false n room few = few
 
-opened_sound : (k : Kind) (line : ℕ) (name : List ℕ) (v : Values) (r : Reading) → is_full k (closed r) ≡ false → IsSound r
+opened_sound : (k : Kind) (line : ℕ) (name : List ℕ) (v : Values) (r : Reading) → is_full k (closed r) ≡ false → IsCalled k name → IsSound r
     → IsSound (means.opened (empty_section k line name v) r)
-opened_sound k line name v r room h =
+opened_sound k line name v r room called h =
     let c = closed_sound r h in
     let parts = or_parts (has_front k && nat_le 16 (length (closed r).fronts)) (has_back k && nat_le 16 (length (closed r).backs)) room in
     record {
@@ -165,12 +202,13 @@ opened_sound k line name v r room h =
       numbered = c.numbered;
       count = c.count;
       few = c.few;
+      names = record { fronts_named = c.names.fronts_named; backs_named = c.names.backs_named; current_named = called; servers_named = refl };
       stray = λ e. refl;
     }
 
 -- what a reading that succeeded shows
 
-in_bounds : (b : Bool) (n m : ℕ) (rule : Rule) (x : Result ℕ Rule) → x ≡ cond b (Ok n) (Err rule) → x ≡ Ok m → (b ≡ true) × (n ≡ m)
+in_bounds : {A : Type 0} (b : Bool) (n m : A) (rule : Rule) (x : Result A Rule) → x ≡ cond b (Ok n) (Err rule) → x ≡ Ok m → (b ≡ true) × (n ≡ m)
 in_bounds true n m rule x is e = (refl, (cc))
 in_bounds false n m rule x is e = absurd (cc)
 
@@ -183,6 +221,9 @@ bounds_of w n e =
     let high : value w ≤ 16 = leb-true (value w) 16 z.1 in
     let same : value w ≡ n = x.1 in
     (omega arith, omega arith)
+
+name_is : (w n : List ℕ) → name_of w ≡ Ok n → is_name n ≡ true
+name_is w n e = let x = in_bounds (is_name w) w n UnknownWord (name_of w) refl e in ap is_name (sym x.1) ∙ x.0
 
 stands_ok : (b : Bool) → (if b then false else true) ≡ false → b ≡ true
 stands_ok true e = refl
@@ -226,14 +267,15 @@ once_room : (c : Bool) (e : Result ⊤ Rule) (b : Bool) (s : Reading) → (b ≡
 once_room true e b s h = tt
 once_room false e b s h = end_room e b TooMany s h
 
-name_room : (q : Result (List ℕ) Rule) (c : List ℕ → Bool) (e : Result ⊤ Rule) (b : Bool) (g : List ℕ → Reading) → ((n : List ℕ) → b ≡ false → IsSound (g n))
+name_room : (q : Result (List ℕ) Rule) (c : List ℕ → Bool) (e : Result ⊤ Rule) (b : Bool) (g : List ℕ → Reading) → ((n : List ℕ) → q ≡ Ok n → b ≡ false → IsSound (g n))
     → Keeps (q >>= λ n. means.unless (c n) DoubleName >>= λ t. e >>= λ u. means.unless b TooMany >>= λ v. Ok (g n))
-name_room (Ok n) c e b g h = once_room (c n) e b (g n) (h n)
+name_room (Ok n) c e b g h = once_room (c n) e b (g n) (h n refl)
 name_room (Err d) c e b g h = tt
 
-word_name_room : (p : Result (List ℕ × List (List ℕ)) Rule) (c : List ℕ → Bool) (b : Bool) (g : List ℕ → Reading) → ((n : List ℕ) → b ≡ false → IsSound (g n))
+word_name_room : (p : Result (List ℕ × List (List ℕ)) Rule) (c : List ℕ → Bool) (b : Bool) (g : List ℕ → Reading)
+    → ((n w : List ℕ) → name_of w ≡ Ok n → b ≡ false → IsSound (g n))
     → Keeps (p >>= λ x. name_of x.0 >>= λ n. means.unless (c n) DoubleName >>= λ t. at_end x.1 >>= λ u. means.unless b TooMany >>= λ v. Ok (g n))
-word_name_room (Ok x) c b g h = name_room (name_of x.0) c (at_end x.1) b g h
+word_name_room (Ok x) c b g h = name_room (name_of x.0) c (at_end x.1) b g (λ n is. h n x.0 is)
 word_name_room (Err d) c b g h = tt
 
 word_test : (p : Result (List ℕ × List (List ℕ)) Rule) (c : List ℕ → Bool) (rule : Rule) (s : Reading) → IsSound s → Keeps (p >>= λ x. means.unless (c x.0) rule >>= λ t. Ok s)
@@ -256,17 +298,17 @@ value_then (Err d) g h = tt
 -- the lines
 
 global_keeps : (line : ℕ) (r : Reading) (ws : List (List ℕ)) → IsSound r → Keeps (means.global_line line r ws)
-global_keeps line r ws h = at_last (at_end ws) (means.opened (empty_section kind.Global line [] usual_values) r) (opened_sound kind.Global line [] usual_values r refl h)
+global_keeps line r ws h = at_last (at_end ws) (means.opened (empty_section kind.Global line [] usual_values) r) (opened_sound kind.Global line [] usual_values r refl (λ e. absurd (let never : false ≡ true = e in cc)) h)
 
 defaults_keeps : (line : ℕ) (r : Reading) (ws : List (List ℕ)) → IsSound r → Keeps (means.defaults_line line r ws)
 defaults_keeps line r ws h =
-    at_last (means.optional_name ws) (means.opened (empty_section kind.Defaults line [] usual_values) r) (opened_sound kind.Defaults line [] usual_values r refl h)
+    at_last (means.optional_name ws) (means.opened (empty_section kind.Defaults line [] usual_values) r) (opened_sound kind.Defaults line [] usual_values r refl (λ e. absurd (let never : false ≡ true = e in cc)) h)
 
 named_keeps : (k : Kind) (line : ℕ) (r : Reading) (ws : List (List ℕ)) → IsSound r → Keeps (means.named_line k line r ws)
 named_keeps k line r ws h =
     word_name_room (word_at ws) (λ n. is_double k n (closed r)) (is_full k (closed r))
     (λ n. means.opened (empty_section k line n (first_values k n (closed r).defaults)) r)
-    (λ n room. opened_sound k line n (first_values k n (closed r).defaults) r room h)
+    (λ n w is room. opened_sound k line n (first_values k n (closed r).defaults) r room (λ e. name_is w n is) h)
 
 nbthread_keeps : (r : Reading) (ws : List (List ℕ)) → IsSound r → Keeps (means.nbthread_line r ws)
 nbthread_keeps r ws h = word_value (word_at ws) (number_in 1 16) (λ n. record r { threads = n }) (λ n w is. record {
@@ -278,6 +320,7 @@ nbthread_keeps r ws h = word_value (word_at ws) (number_in 1 16) (λ n. record r
   numbered = h.numbered;
   count = h.count;
   few = h.few;
+  names = h.names;
   stray = h.stray;
 })
 
@@ -294,6 +337,7 @@ bind_keeps r ws h =
       numbered = h.numbered;
       count = h.count;
       few = h.few;
+      names = h.names;
       stray = h.stray;
     })
 
@@ -322,9 +366,9 @@ default_server_keeps line r ws h =
     value_then (chosen_by (means.usual_choice r) ws) (λ c. means.passing_if c.passed line (means.with_rules c.rules r))
     (λ c. kept_if c.passed line (means.with_rules c.rules r) (kept_values (record r.current.values { rules = c.rules }) r h))
 
-server_added : (r : Reading) (s : Server) → has_back r.current.kind ≡ true → s.no.0 ≡ r.servers → r.servers < 32 → IsSound r
+server_added : (r : Reading) (s : Server) → has_back r.current.kind ≡ true → s.no.0 ≡ r.servers → r.servers < 32 → is_name s.name ≡ true → IsSound r
     → IsSound (record r { servers = r.servers + 1; current = record r.current { servers = r.current.servers ++ s ∷ [] } })
-server_added r s back number room h =
+server_added r s back number room name h =
     let all : ended_servers r.backs ++ (r.current.servers ++ s ∷ []) ≡ servers_so_far r ++ s ∷ [] = sym (append_assoc (ended_servers r.backs) r.current.servers (s ∷ [])) in
     record {
       threads = h.threads;
@@ -335,6 +379,12 @@ server_added r s back number room h =
       numbered = ap (are_numbered 0) all ∙ number_pushed 0 (servers_so_far r) s h.numbered (omega (arith, h.count));
       count = ap (λ (ss : List Server). length ss) all ∙ omega (arith, h.count, length-append (servers_so_far r) (s ∷ []));
       few = omega arith;
+      names = record {
+        fronts_named = h.names.fronts_named;
+        backs_named = h.names.backs_named;
+        current_named = h.names.current_named;
+        servers_named = all_pushed (λ (t : Server). is_name t.name) r.current.servers s h.names.servers_named name;
+      };
       stray = λ e. absurd (let never : true ≡ false = sym back ∙ e in cc);
     }
 
@@ -366,21 +416,21 @@ once_second true p c b g h = tt
 once_second false p c b g h = second_room p c b g h
 
 name_second : (q : Result (List ℕ) Rule) (u : List ℕ → Bool) (p : Result (List ℕ × List (List ℕ)) Rule) (c : Chosen) (b : Bool) (g : List ℕ → Address → Chosen → Reading)
-    → ((n : List ℕ) (a : Address) (d : Chosen) → b ≡ false → IsSound (g n a d))
+    → ((n : List ℕ) (a : Address) (d : Chosen) → q ≡ Ok n → b ≡ false → IsSound (g n a d))
     → Keeps (q >>= λ n. means.unless (u n) DoubleName >>= λ o. p >>= λ y. server_address y.0 >>= λ a. chosen_by c y.1 >>= λ d. means.unless b TooMany >>= λ t. Ok (g n a d))
-name_second (Ok n) u p c b g h = once_second (u n) p c b (g n) (h n)
+name_second (Ok n) u p c b g h = once_second (u n) p c b (g n) (λ a d. h n a d refl)
 name_second (Err e) u p c b g h = tt
 
 first_second : (x : Result (List ℕ × List (List ℕ)) Rule) (u : List ℕ → Bool) (c : Chosen) (b : Bool) (g : List ℕ → Address → Chosen → Reading)
-    → ((n : List ℕ) (a : Address) (d : Chosen) → b ≡ false → IsSound (g n a d))
+    → ((n w : List ℕ) (a : Address) (d : Chosen) → name_of w ≡ Ok n → b ≡ false → IsSound (g n a d))
     → Keeps (x >>= λ v. name_of v.0 >>= λ n. means.unless (u n) DoubleName >>= λ o. word_at v.1 >>= λ y. server_address y.0 >>= λ a. chosen_by c y.1 >>= λ d. means.unless b TooMany >>= λ t. Ok (g n a d))
-first_second (Ok v) u c b g h = name_second (name_of v.0) u (word_at v.1) c b g h
+first_second (Ok v) u c b g h = name_second (name_of v.0) u (word_at v.1) c b g (λ n a d is. h n v.0 a d is)
 first_second (Err e) u c b g h = tt
 
 server_keeps : (line : ℕ) (r : Reading) (ws : List (List ℕ)) → has_back r.current.kind ≡ true → IsSound r → Keeps (means.server_line line r ws)
 server_keeps line r ws back h =
-    first_second (word_at ws) (λ n. has_server_named n r.current.servers) (means.usual_choice r) (nat_le 32 r.servers) (λ n a c. added r line n a c) (λ n a c room.
-    kept_if c.passed line _ (server_added r (record { name = n; no = record { 0 = r.servers }; address = a; rules = c.rules }) back refl (leb-false 32 r.servers room) h))
+    first_second (word_at ws) (λ n. has_server_named n r.current.servers) (means.usual_choice r) (nat_le 32 r.servers) (λ n a c. added r line n a c) (λ n w a c is room.
+    kept_if c.passed line _ (server_added r (record { name = n; no = record { 0 = r.servers }; address = a; rules = c.rules }) back refl (leb-false 32 r.servers room) (name_is w n is) h))
 
 option_keeps : (line : ℕ) (r : Reading) (ws : List (List ℕ)) → IsSound r → Keeps (means.option_line line r ws)
 option_keeps line r ws h =
@@ -461,6 +511,12 @@ nothing_sound = record {
   numbered = refl;
   count = refl;
   few = omega arith;
+  names = record {
+    fronts_named = refl;
+    backs_named = refl;
+    current_named = λ e. absurd (let never : false ≡ true = e in cc);
+    servers_named = refl;
+  };
   stray = λ e. refl;
 }
 

@@ -1,6 +1,6 @@
 -- What was read within the limits makes a configuration within them.
-use Rattle.std.proofs.Common.{◌≡◌, ℕ, zero, suc, ◌+◌, ◌<◌, true, false, List, [], ◌∷◌, ◌++◌, length, map, Option, Some, None, Result, Ok, Err, refl, sym, ap, ◌∙◌, arith, inl, inr}
-use Rattle.std.specs.Prelude.{◌==◌, nat_le, nat_lt, slice_get, bytes_eq}
+use Rattle.std.proofs.Common.{◌≡◌, ℕ, zero, suc, ◌+◌, ◌<◌, Bool, true, false, List, [], ◌∷◌, ◌++◌, length, map, Option, Some, None, Result, Ok, Err, refl, sym, ap, ◌∙◌, arith, inl, inr}
+use Rattle.std.specs.Prelude.{◌&&◌, ◌==◌, nat_le, nat_lt, slice_get, bytes_eq}
 use Rattle.std.specs.List.{list_all, list_any}
 use Rattle.std.proofs.lemmas.Bool.{cases_Bool, and_parts, and_from, and_cases, eq-eqb, lt-ltb, ltb-true, cond-true, cond-false, or_left, or_right, not_from_false}
 use Rattle.std.proofs.lemmas.List.{length-map, append-nil}
@@ -11,8 +11,9 @@ use Rattle.hx_config.specs.declared.parts.Server.{Server}
 use Rattle.hx_config.specs.declared.sections.Frontend.{Frontend}
 use Rattle.hx_config.specs.declared.sections.Backend.{Backend}
 use Rattle.hx_config.specs.declared.reading.Reading.{Reading}
+use Rattle.hx_base.specs.Names.{is_name}
 use Rattle.hx_config.specs.Faults.{◌>>=◌}
-use Rattle.hx_config.specs.Limits.{has_few_binds, all_servers, are_numbered, serves, are_served, IsWithin}
+use Rattle.hx_config.specs.Limits.{has_few_binds, all_servers, are_numbered, serves, are_served, are_fronts_named, has_names, IsWithin}
 use Rattle.hx_config.specs.Sound.{ended_servers, servers_so_far, few_binds, IsSound}
 use Rattle.hx_config.specs.Sections.{closed}
 use Rattle.hx_config.specs.Meaning.{place_from, place_of, at_place, placed, all_placed, is_idle, all_served}
@@ -48,6 +49,7 @@ wanted_within (Some name) bs k e = omega (arith, found_within 0 name bs k e)
 
 -- a frontend that was placed
 pub record IsPlaced (backs : List Backend) (f : Frontend) (x : Front) : Type 0 where
+  pub name : x.name ≡ f.name
   pub binds : x.binds ≡ f.binds
   pub within : x.back < length backs
 
@@ -56,11 +58,12 @@ placed_is backs f None x there e = absurd (never_ok (at_place f None) (record { 
 placed_is backs f (Some i) x there e =
     let front : Front = record { name = f.name; binds = f.binds; back = i; client = f.client; keep_alive = f.keep_alive } in
     let is : front ≡ x = ok_same (at_place f (Some i)) front x refl e in
-    record { binds = sym (ap (λ (y : Front). y.binds) is); within = (let k : i ≡ x.back = ap (λ (y : Front). y.back) is in omega (arith, there i refl)) }
+    record { name = sym (ap (λ (y : Front). y.name) is); binds = sym (ap (λ (y : Front). y.binds) is); within = (let k : i ≡ x.back = ap (λ (y : Front). y.back) is in omega (arith, there i refl)) }
 
 pub record ArePlaced (backs : List Backend) (fs : List Frontend) (xs : List Front) : Type 0 where
   pub len : length xs ≡ length fs
   pub binds : few_binds fs ≡ true → has_few_binds xs ≡ true
+  pub named : list_all (λ f. is_name f.name) fs ≡ true → are_fronts_named xs ≡ true
   pub within : list_all (λ x. nat_lt x.back (length backs)) xs ≡ true
 
 all_placed_are : (backs : List Backend) (fs : List Frontend) (xs : List Front) → all_placed backs fs ≡ Ok xs → ArePlaced backs fs xs
@@ -70,6 +73,7 @@ all_placed_are backs [] xs e =
     record {
       len = ap (λ (ys : List Front). length ys) (sym is);
       binds = λ h. ap has_few_binds (sym is);
+      named = λ h. ap are_fronts_named (sym is);
       within = ap (list_all (λ (x : Front). nat_lt x.back (length backs))) (sym is);
     }
 all_placed_are backs (f ∷ fs) xs e =
@@ -83,6 +87,8 @@ all_placed_are backs (f ∷ fs) xs e =
       len = ap (λ (ys : List Front). length ys) (sym is) ∙ ap suc rest.len;
       binds = λ h. (let parts = and_parts (nat_le (length f.binds) 16) (few_binds fs) h in
           ap has_few_binds (sym is) ∙ and_from _ _ (ap (λ (bs : List _). nat_le (length bs) 16) here.binds ∙ parts.0) (rest.binds parts.1));
+      named = λ h. (let parts = and_parts (is_name f.name) (list_all (λ (g : Frontend). is_name g.name) fs) h in
+          ap are_fronts_named (sym is) ∙ and_from _ _ (ap is_name here.name ∙ parts.0) (rest.named parts.1));
       within = ap (list_all (λ (x : Front). nat_lt x.back (length backs))) (sym is) ∙ and_from _ _ (lt-ltb one.0.back (length backs) here.within) rest.within;
     }
 
@@ -125,6 +131,10 @@ servers_of_backs : (backs : List Backend) → all_servers (map (λ (b : Backend)
 servers_of_backs [] = refl
 servers_of_backs (b ∷ bs) = ap (λ (ss : List Server). b.back.servers ++ ss) (servers_of_backs bs)
 
+backs_named_of : (backs : List Backend) → list_all has_names (map (λ (b : Backend). b.back) backs) ≡ list_all (λ (b : Backend). has_names b.back) backs
+backs_named_of [] = refl
+backs_named_of (b ∷ bs) = ap (λ (t : Bool). has_names b.back && t) (backs_named_of bs)
+
 -- with no section open
 pub config_within : (r : Reading) (fronts : List Front) → IsSound r → r.current.servers ≡ [] → all_placed r.backs r.fronts ≡ Ok fronts → all_served 0 fronts r.backs ≡ Ok tt
     → IsWithin r.threads fronts (map (λ (b : Backend). b.back) r.backs)
@@ -140,4 +150,6 @@ config_within r fronts h closed placed served =
       servers_in = (let n : length (servers_so_far r) ≡ length (all_servers (map (λ (b : Backend). b.back) r.backs)) = ap (λ (ss : List Server). length ss) all in omega (arith, n, h.count, h.few));
       numbered = ap (are_numbered 0) (sym all) ∙ h.numbered;
       served = each_served fronts r.backs fronts served p.within (λ k x. x);
+      fronts_named = p.named h.names.fronts_named;
+      backs_named = backs_named_of r.backs ∙ h.names.backs_named;
     }

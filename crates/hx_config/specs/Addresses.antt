@@ -1,14 +1,15 @@
 -- Addresses and names (HAProxy 2.4 Configuration Manual, sections 2.1, 4.2 and 5.2).
-use Rattle.std.specs.Prelude.{ℕ, Bool, true, ◌&&◌, ◌||◌, not, List, [], ◌∷◌, Result, Ok, Err, if◌then◌else◌, ◌==◌, nat_le, bytes_eq, codes}
-use Rattle.std.specs.List.{list_all}
+use Rattle.std.specs.Prelude.{ℕ, Bool, true, ◌||◌, not, List, [], ◌∷◌, Result, Ok, Err, if◌then◌else◌, ◌==◌, bytes_eq, codes}
 use Rattle.hx_config.specs.declared.fault.Rule.{Rule}
 use Rattle.hx_config.specs.declared.fault.Rule.TheVariants.{BadAddress, UnknownWord}
 use Rattle.hx_base.specs.declared.address.Host.{Host}
 use Rattle.hx_base.specs.declared.address.Host.TheVariants as host
 use Rattle.hx_base.specs.declared.address.Address.{Address}
+use Rattle.hx_base.specs.Names.{is_name}
 use Rattle.hx_config.specs.Faults.{◌>>=◌}
-use Rattle.hx_config.specs.Numbers.{is_digit, bounded}
+use Rattle.hx_config.specs.Numbers.{bounded}
 
+-- what was read before, with b in front
 abbrev pub before : ℕ → Result (List ℕ × List ℕ) Rule → Result (List ℕ × List ℕ) Rule
 before b read = read >>= λ x. Ok (b ∷ x.0, x.1)
 
@@ -47,6 +48,7 @@ server_host w = if bytes_eq w (codes "localhost") then Ok host.Local else dotted
 abbrev pub bind_host : List ℕ → Result Host Rule
 bind_host w = if bytes_eq w [] || bytes_eq w (codes "*") then Ok host.Any else server_host w
 
+-- a port, from 1 on
 abbrev pub port_of : List ℕ → Result ℕ Rule
 port_of w = bounded BadAddress 1 65535 w
 
@@ -58,6 +60,7 @@ server_address w = do
   port ← port_of x.1
   Ok (record { host = at; port = port })
 
+-- the same, where the host may be missing
 unfoldable pub bind_address : List ℕ → Result Address Rule
 bind_address w = do
   x ← cut_at 58 w
@@ -65,12 +68,6 @@ bind_address w = do
   port ← port_of x.1
   Ok (record { host = at; port = port })
 
--- a letter, a digit, `-`, `_`, `.` or `:`
-abbrev pub is_name_byte : ℕ → Bool
-is_name_byte b =
-    (nat_le 97 b && nat_le b 122) || ((nat_le 65 b && nat_le b 90) || (is_digit b
-    || (b == 45 || (b == 95 || (b == 46 || b == 58)))))
-
 -- a name
 abbrev pub name_of : List ℕ → Result (List ℕ) Rule
-name_of w = if list_all is_name_byte w then Ok w else Err UnknownWord
+name_of w = if is_name w then Ok w else Err UnknownWord

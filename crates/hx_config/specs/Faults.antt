@@ -45,6 +45,7 @@ abbrev pub Halts : {Y : Type 0} → Stop → Result Y Flaw → Type 0
 Halts stop.Memory reading = Unit {0}
 Halts (stop.At flaw) reading = reading ≡ Err flaw
 
+-- what a call returned of a whole text, seen by view, is what the reading gives, unless memory ran out
 abbrev pub Leads : {X Y : Type 0} → (X → Y) → Result X Stop → Result Y Flaw → Type 0
 Leads view (Ok x) reading = reading ≡ Ok (view x)
 Leads view (Err e) reading = Halts e reading

@@ -8,6 +8,7 @@ abbrev pub found : {A : Type 0} → List (List ℕ × A) → List ℕ → Option
 found [] w = None
 found (row ∷ rows) w = if bytes_eq w row.0 then Some row.1 else found rows w
 
+-- the word is one of these
 abbrev pub is_one_of : List (List ℕ) → List ℕ → Bool
 is_one_of [] w = false
 is_one_of (x ∷ xs) w = bytes_eq w x || is_one_of xs w
@@ -41,9 +42,11 @@ passed_word w =
     else if is_one_of (codes "errorfile" ∷ codes "retries" ∷ []) w then Some first.PassedInOthers
     else if is_one_of global_words w then Some first.PassedInGlobal else None
 
+-- the first of the two that is there
 abbrev pub or_else : {A : Type 0} → Option A → Option A → Option A
 or_else None other = other
 or_else (Some x) other = Some x
 
+-- what the first word of a line begins, where it is one
 abbrev pub first_word : List ℕ → Option FirstWord
 first_word w = or_else (found section_words w) (or_else (found setting_words w) (passed_word w))

@@ -35,6 +35,7 @@ lines_of (b ∷ bs) =
 abbrev pub is_blank : ℕ → Bool
 is_blank b = b == 32 || b == 9
 
+-- a blank or a tab stands at the front
 abbrev pub begins_blank : List ℕ → Bool
 begins_blank [] = false
 begins_blank (b ∷ bs) = is_blank b
@@ -58,9 +59,11 @@ words_of (b ∷ bs) =
 abbrev pub is_printable : ℕ → Bool
 is_printable b = nat_le 33 b && nat_le b 126
 
+-- a word of printable ASCII alone
 abbrev pub is_ascii : List ℕ → Bool
 is_ascii word = list_all is_printable word
 
+-- the line has no words
 abbrev pub no_words : List (List ℕ) → Bool
 no_words [] = true
 no_words (w ∷ ws) = false

@@ -7,6 +7,7 @@ pub mod Meaning
 pub mod Numbers
 pub mod Options
 pub mod Places
+pub mod Samples
 pub mod Sections
 pub mod Statements
 pub mod Views

@@ -21,6 +21,7 @@ pub record Meaning : Type 0 where
   pub backs : List Back
   pub passed_over : List ℕ
 
+-- a rule that is broken, with the number of the line
 abbrev pub located : {A : Type 0} → ℕ → Result A Rule → Result A Flaw
 located line (Ok x) = Ok x
 located line (Err rule) = Err (record { line = line; rule = rule })
@@ -35,6 +36,7 @@ unfoldable pub place_from : ℕ → List ℕ → List Backend → Option ℕ
 place_from i name [] = None
 place_from i name (b ∷ bs) = if bytes_eq b.back.name name then Some i else place_from (i + 1) name bs
 
+-- the place of the backend of this name, where there is a name
 abbrev pub place_of : Option (List ℕ) → List Backend → Option ℕ
 place_of None backs = None
 place_of (Some name) backs = place_from 0 name backs
@@ -45,9 +47,11 @@ at_place f None = Err (record { line = f.line; rule = NoSuchBackend })
 at_place f (Some i) =
     Ok (record { name = f.name; binds = f.binds; back = i; client = f.client; keep_alive = f.keep_alive })
 
+-- a frontend with the place of the backend that it wants
 abbrev pub placed : List Backend → Frontend → Result Front Flaw
 placed backs f = at_place f (place_of f.wants backs)
 
+-- the frontends with the places of their backends, or the first without one
 unfoldable pub all_placed : List Backend → List Frontend → Result (List Front) Flaw
 all_placed backs [] = Ok []
 all_placed backs (f ∷ fs) = placed backs f >>= λ x. all_placed backs fs >>= λ xs. Ok (x ∷ xs)

@@ -5,6 +5,7 @@ use Rattle.hx_base.specs.declared.numbers.Millis.{Millis}
 use Rattle.hx_config.specs.declared.fault.Rule.{Rule}
 use Rattle.hx_config.specs.declared.fault.Rule.TheVariants.{BadNumber, BadTime}
 
+-- a decimal digit
 abbrev pub is_digit : ℕ → Bool
 is_digit b = nat_le 48 b && nat_le b 57
 
@@ -25,6 +26,7 @@ value w = value_from 0 w
 abbrev pub bounded : Rule → ℕ → ℕ → List ℕ → Result ℕ Rule
 bounded rule low high w = if is_number w && (nat_le low (value w) && nat_le (value w) high) then Ok (value w) else Err rule
 
+-- a number from low to high
 abbrev pub number_in : ℕ → ℕ → List ℕ → Result ℕ Rule
 number_in low high w = bounded BadNumber low high w
 

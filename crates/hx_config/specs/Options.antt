@@ -10,12 +10,14 @@ use Rattle.hx_config.specs.Keywords.{found}
 use Rattle.hx_config.specs.Lexical.{with_rest, word_at}
 use Rattle.hx_config.specs.Numbers.{is_number, number_in, time_of}
 
+-- the words that name an option
 abbrev pub option_words : List (List ℕ × ServerOption)
 option_words =
     (codes "pool-max-conn", option.MaxConn) ∷ (codes "pool-low-conn", option.LowConn)
     ∷ (codes "pool-purge-delay", option.PurgeDelay) ∷ (codes "check", option.Check) ∷ (codes "inter", option.Inter)
     ∷ (codes "rise", option.Count) ∷ (codes "fall", option.Count) ∷ (codes "maxconn", option.Count) ∷ []
 
+-- what a table has for a word
 abbrev pub known : Option ServerOption → Result ServerOption Rule
 known None = Err UnknownWord
 known (Some o) = Ok o
@@ -50,6 +52,7 @@ after_option o c ws = do
   x ← word_at ws
   with_rest x.1 (with_value o c x.0)
 
+-- the next option: what is chosen then, and the words after it
 abbrev pub one_option : Chosen → List (List ℕ) → Result (Chosen × List (List ℕ)) Rule
 one_option c ws = do
   o ← option_at ws

@@ -25,10 +25,12 @@ has_back kind.Backend = true
 has_back kind.Listen = true
 has_back _ = false
 
+-- a `defaults` section
 abbrev pub is_defaults : Kind → Bool
 is_defaults kind.Defaults = true
 is_defaults _ = false
 
+-- a `global` section
 abbrev pub is_global : Kind → Bool
 is_global kind.Global = true
 is_global _ = false
@@ -51,14 +53,21 @@ abbrev pub first_values : Kind → List ℕ → Values → Values
 first_values kind.Listen name values = record values { back = Some name }
 first_values _ name values = values
 
+-- a section before its lines
 abbrev pub empty_section : Kind → ℕ → List ℕ → Values → Section
 empty_section k line name values =
     record { kind = k; line = line; name = name; values = values; binds = []; servers = [] }
+
+-- a section of this name has begun, with the values of the defaults before it
+abbrev pub begun_named : Kind → ℕ → List ℕ → Reading → Reading
+begun_named k line name r =
+    record r { current = empty_section k line name (first_values k name r.defaults) }
 
 -- before the first section
 abbrev pub nowhere : Section
 nowhere = empty_section kind.Nowhere 0 [] usual_values
 
+-- the server with this mode
 abbrev pub with_mode : Mode → Server → Server
 with_mode m s = record s { rules = record s.rules { mode = m } }
 
@@ -101,9 +110,11 @@ closed r = ended r.current (record r { current = nowhere })
 abbrev pub has_front_named : List ℕ → List Frontend → Bool
 has_front_named name fronts = list_any (λ f. bytes_eq f.name name) fronts
 
+-- a backend that has ended has the name
 abbrev pub has_back_named : List ℕ → List Backend → Bool
 has_back_named name backs = list_any (λ b. bytes_eq b.back.name name) backs
 
+-- a server has the name
 abbrev pub has_server_named : List ℕ → List Server → Bool
 has_server_named name servers = list_any (λ s. bytes_eq s.name name) servers
 
@@ -120,6 +131,7 @@ is_full k r = (has_front k && nat_le 16 (length r.fronts)) || (has_back k && nat
 abbrev pub passing : ℕ → Reading → Reading
 passing line r = record r { passed_over = r.passed_over ++ line ∷ [] }
 
+-- the open section with these values
 abbrev pub with_values : Values → Reading → Reading
 with_values v r = record r { current = record r.current { values = v } }
 

@@ -32,6 +32,7 @@ abbrev pub known : {A : Type 0} → Option A → Result A Rule
 known None = Err UnknownWord
 known (Some x) = Ok x
 
+-- the open section has ended, and this one begins
 abbrev pub opened : Section → Reading → Reading
 opened s r = record (closed r) { current = s }
 
@@ -41,6 +42,7 @@ global_line line r ws = do
   e ← at_end ws
   Ok (opened (empty_section kind.Global line [] usual_values) r)
 
+-- no word, or one that is a name
 abbrev pub optional_name : List (List ℕ) → Result ⊤ Rule
 optional_name [] = Ok tt
 optional_name (w ∷ ws) = do
@@ -54,6 +56,7 @@ defaults_line line r ws = do
   e ← optional_name ws
   Ok (opened (empty_section kind.Defaults line [] usual_values) r)
 
+-- the rule, where it is broken
 abbrev pub unless : Bool → Rule → Result ⊤ Rule
 unless broken rule = if broken then Err rule else Ok tt
 
@@ -99,11 +102,13 @@ default_backend_line r ws = do
   e ← at_end x.1
   Ok (with_values (record r.current.values { back = Some name }) r)
 
+-- the words behind `http-reuse`
 abbrev pub mode_words : List (List ℕ × Mode)
 mode_words =
     (codes "never", mode.Never) ∷ (codes "safe", mode.Safe) ∷ (codes "aggressive", mode.Aggressive)
     ∷ (codes "always", mode.Always) ∷ []
 
+-- the open section with these pool settings
 abbrev pub with_rules : PoolRules → Reading → Reading
 with_rules rules r = with_values (record r.current.values { rules = rules }) r
 
@@ -115,6 +120,7 @@ http_reuse_line r ws = do
   e ← at_end x.1
   Ok (with_rules (record r.current.values.rules { mode = m }) r)
 
+-- the values after a `timeout` line
 abbrev pub with_time : TimeoutWord → Millis → Values → Values
 with_time timeout.Connect t v = record v { connect = Some t }
 with_time timeout.Server t v = record v { server = Some t }
@@ -122,6 +128,7 @@ with_time timeout.Client t v = record v { client = Some t }
 with_time timeout.KeepAlive t v = record v { keep_alive = Some t }
 with_time timeout.Other t v = v
 
+-- what a `timeout` line does that is treated so
 abbrev pub treated : Treatment → TimeoutWord → ℕ → Reading → List (List ℕ) → Result Reading Rule
 treated treatment.Unknown which line r ws = Err UnknownWord
 treated treatment.Passed which line r ws = Ok (passing line r)
@@ -138,9 +145,11 @@ timeout_line line r ws = do
   which ← known (found timeout_words x.0)
   treated (treatment_of which r.current.kind) which line r x.1
 
+-- a line with an option that is passed over has a part without effect
 abbrev pub passing_if : Bool → ℕ → Reading → Reading
 passing_if passed line r = if passed then passing line r else r
 
+-- what is chosen before any option: the settings of the open section
 abbrev pub usual_choice : Reading → Chosen
 usual_choice r = record { rules = r.current.values.rules; passed = false }
 
@@ -209,5 +218,6 @@ words_read line r ws = do
   here ← unless (if stands_in f r.current.kind then false else true) WrongPlace
   said f line r x.1
 
+-- what is read behind a line of these words
 unfoldable pub line_read : ℕ → Reading → List (List ℕ) → Result Reading Rule
 line_read line r ws = if no_words ws then Ok r else words_read line r ws

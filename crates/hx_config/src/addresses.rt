@@ -1,6 +1,7 @@
 //! Addresses and names.
 ghost use Rattle.std.specs.Prelude.{◌≡◌, ◌≤◌, ◌<◌, take, drop, Ok, Err, bytes_eq};
 ghost use Rattle.std.specs.List.{list_all};
+ghost use Rattle.hx_base.specs.Names as names;
 ghost use Rattle.hx_config.specs.Faults.{Gives};
 ghost use Rattle.hx_config.specs.Numbers.{is_number, value};
 ghost use Rattle.hx_config.specs.Addresses as spelled;
@@ -105,24 +106,24 @@ pub fn address_to_bind(word: &[u8]) -> Result<Address, Refusal>
 }
 
 fn is_name_letter(b: u8) -> bool
-    ensures { result ≡ spelled.is_name_byte b }
+    ensures { result ≡ names.is_name_byte b }
 {
-    (97 <= b && b <= 122)
-        || (65 <= b && b <= 90)
-        || (48 <= b && b <= 57)
-        || b == b'-'
-        || b == b'_'
-        || b == b'.'
-        || b == b':'
+    b.is_ascii_alphanumeric() || b == b'-' || b == b'_' || b == b'.' || b == b':'
 }
 
-fn is_name(word: &[u8]) -> bool
-    ensures { result ≡ list_all spelled.is_name_byte word.now }
+fn are_name_letters(word: &[u8]) -> bool
+    ensures { result ≡ list_all names.is_name_byte word.now }
 {
     word.iter().all(|b| is_name_letter(*b))
 }
 
-/// A name, of letters, digits, `-`, `_`, `.` and `:`.
+fn is_name(word: &[u8]) -> bool
+    ensures { result ≡ names.is_name word.now }
+{
+    !word.is_empty() && are_name_letters(word)
+}
+
+/// A name: one or more letters, digits, `-`, `_`, `.` and `:`.
 pub fn name(word: &[u8]) -> Result<&[u8], Refusal>
     ensures { Gives (λ n. n.now) result (spelled.name_of word.now) }
 {

@@ -7,6 +7,7 @@ mod fault;
 mod finish;
 mod growing;
 mod keywords;
+mod laws;
 mod lines;
 mod numbers;
 mod opening;
@@ -22,6 +23,7 @@ mod words;
 pub use config::Config;
 pub use fault::ConfigFault;
 pub use hx_base::{Address, Host};
+pub use laws::samples;
 pub use parts::{Back, Front, Server};
 pub use read::read_config;
 

@@ -140,10 +140,7 @@ impl Reading {
         name: &[u8],
     ) -> Result<(), Refusal>
         ensures { Gives (λ _. self.new) result
-            (Ok (record self.old {
-              current = section.empty_section kind line name.now
-                  (section.first_values kind name.now self.old.defaults);
-            })) }
+            (Ok (section.begun_named kind line name.now self.old)) }
     {
         let values = first_values(alloc, kind, name, &self.defaults)?;
         let name = copy_name(alloc, name)?;

@@ -1,5 +1,5 @@
 -- A text has one meaning, so it is one exchange, or has a fault, or is neither.
-use Rattle.std.proofs.Common.{◌≡◌, ◌↔◌, ℕ, ◌≤◌, Bool, true, false, List, [], ◌∷◌, All, IsTrue, MatchOption, length, Option, Some, None, Result, Ok, Err, refl, sym, ap, subst, ◌∙◌, arith}
+use Rattle.std.proofs.Common.{◌≡◌, ◌↔◌, ℕ, ◌≤◌, Bool, true, false, List, [], ◌∷◌, ◌+◌, All, IsTrue, MatchOption, length, Option, Some, None, Result, Ok, Err, refl, sym, ap, subst, ◌∙◌, arith}
 use Rattle.std.specs.Prelude.{IfSome, ◌==◌, ◌||◌}
 use Rattle.std.specs.List.{list_all, list_any}
 use Rattle.std.specs.Option.{option_zip}
@@ -11,9 +11,10 @@ use Rattle.hx_config.specs.Meaning as config
 use Rattle.hx_config.specs.declared.parts.Back.{Back}
 use Rattle.hx_config.specs.declared.parts.Server.{Server}
 use Rattle.hx_link.specs.MemoryNets.{IsPlan}
+use Rattle.hx_link.specs.Planned.{planned}
 use Rattle.hx_base.specs.declared.plan.Plan.{Plan}
 use Rattle.hx_script_parts.specs.Lexical.{lines_of}
-use Rattle.hx_script_parts.specs.Limits.{is_positive, has_limits, is_client_of, dials, is_plan_of}
+use Rattle.hx_script_parts.specs.Limits.{is_positive, has_limits, is_client_of, dials, is_plan_of, longest_text, client_bytes, plan_bytes}
 use Rattle.hx_script_parts.specs.Meaning.{Meaning, meaning_of}
 use Rattle.hx_script_parts.specs.declared.fault.Flaw.{Flaw}
 use Rattle.hx_script_parts.specs.declared.fault.Flaw.TheVariants as flaw
@@ -23,7 +24,6 @@ use Rattle.hx_form.specs.Forms.{IsTick, NoTicks, IsCase, IsUnbuiltScript, IsDial
 use Rattle.hx_form.specs.Routes.{HasRoute, NoRoute}
 use Rattle.hx_form.specs.Shapes.{HasShape, NoShape, shape_of}
 use Rattle.hx_form.specs.declared.route.Route.{Route}
-use Rattle.hx_form.proofs.Bounds.{count, client_bytes, plan_bytes, IsBounded, bounded}
 use Rattle.hx_form.specs.declared.shape.Shape.{Shape}
 
 -- ---- lines that only name a moment
@@ -135,23 +135,27 @@ same_server plans a b h k = let lists : a ∷ [] ≡ b ∷ [] = sym h ∙ k in c
 shape_moved : (a b c d : Plan) (s : Shape) → a ≡ c → b ≡ d → HasShape a b s → HasShape c d s
 shape_moved a b c d s e f h = subst (λ (x : Plan). HasShape c x s) f (subst (λ (x : Plan). HasShape x b s) e h)
 
-client_fits : (m : Meaning) (client : Plan) → IsBounded m → IsOneClient m.clients client → count client.pieces ≤ 1048576
+-- the links of a script have no more bytes than a text may have
+abbrev pub IsBounded : Meaning → Type 0
+IsBounded m = client_bytes m.clients + plan_bytes m.plans ≤ longest_text
+
+client_fits : (m : Meaning) (client : Plan) → IsBounded m → IsOneClient m.clients client → length (planned client.pieces) ≤ longest_text
 client_fits m client b h =
     let held : client_bytes m.clients ≡ client_bytes (h.line ∷ []) = ap client_bytes h.one in
-    subst (λ (p : Plan). count p.pieces ≤ 1048576) h.plan (omega (arith, held, b))
+    subst (λ (p : Plan). length (planned p.pieces) ≤ longest_text) h.plan (omega (arith, held, b))
 
-server_fits : (m : Meaning) (server : Plan) → IsBounded m → IsOnePlan m.plans server → count server.pieces ≤ 1048576
+server_fits : (m : Meaning) (server : Plan) → IsBounded m → IsOnePlan m.plans server → length (planned server.pieces) ≤ longest_text
 server_fits m server b h = let held : plan_bytes m.plans ≡ plan_bytes (server ∷ []) = ap plan_bytes h in omega (arith, held, b)
 
-pub unbuilt_shape : (text : List ℕ) (m : Meaning) (client server : Plan) → meaning_of text ≡ Ok m → HasLinks m.clients m.plans client server → NoShape client server
+pub unbuilt_shape : (text : List ℕ) (m : Meaning) (client server : Plan) → meaning_of text ≡ Ok m → IsBounded m → HasLinks m.clients m.plans client server → NoShape client server
     → IsUnbuiltScript text
-unbuilt_shape text m client server is links none =
+unbuilt_shape text m client server is b links none =
     unbuilt text m is (λ route c k s h shape.
     let other = case_links text m route c k is h in
     let moved : HasShape client server s = shape_moved c k client server s (same_client m.clients c client other.one_client links.one_client)
     (same_server m.plans k server other.one_server links.one_server) shape in
-    let ask = client_fits m client (bounded text m is) links.one_client in
-    let answer = server_fits m server (bounded text m is) links.one_server in
+    let ask = client_fits m client b links.one_client in
+    let answer = server_fits m server b links.one_server in
     none s (omega (arith, moved.asked, ask)) (omega (arith, moved.answered, answer)) moved)
 
 -- ---- plans

@@ -1,7 +1,3 @@
-pub mod Bounds
-pub mod ConfigNames
-pub mod ConfigReading
 pub mod FormLemmas
-pub mod NameLemmas
 pub mod RouteLemmas
 pub mod ShapeLemmas

@@ -1,36 +1,31 @@
 -- A configuration has one route or none, and its names are names.
-use Rattle.std.proofs.Common.{◌≡◌, ℕ, true, List, [], ◌∷◌, Ok, refl, sym, ap, subst, ◌∙◌, arith}
+use Rattle.std.proofs.Common.{◌≡◌, ℕ, ◌<◌, Bool, true, List, [], ◌∷◌, length, refl, sym, ap, subst, ◌∙◌, arith}
+use Rattle.std.specs.Prelude.{◌==◌, not}
 use Rattle.std.specs.List.{list_all}
-use Rattle.std.proofs.lemmas.Bool.{and_parts, and_from}
-use Rattle.std.proofs.lemmas.Bool.Decides.{nat_tests}
+use Rattle.std.proofs.lemmas.Bool.{and_parts}
+use Rattle.hx_base.specs.Names.{is_name_byte, is_name, IsName}
 use Rattle.hx_config.specs.declared.parts.Back.{Back}
 use Rattle.hx_config.specs.declared.parts.Server.{Server}
-use Rattle.hx_config.specs.Addresses as config
-use Rattle.hx_config.specs.Meaning.{Meaning, meaning_of}
-use Rattle.hx_script.specs.PrintedForm.{is_name_byte, IsName}
+use Rattle.hx_config.specs.Limits.{are_servers_named, has_names}
+use Rattle.hx_config.specs.Meaning.{Meaning}
 use Rattle.hx_form.specs.Routes.{route_by, HasRoute, IsNamed}
 use Rattle.hx_form.specs.declared.route.Route.{Route}
-use Rattle.hx_form.proofs.ConfigNames.{IsGoodName, GoodServers}
-use Rattle.hx_form.proofs.ConfigReading.{backs_are_good}
 
-byte_of_name : (b : ℕ) → config.is_name_byte b ≡ true → is_name_byte b ≡ true
-byte_of_name b e = grind (arith, nat_tests)
+filled : (w : List ℕ) → not (length w == 0) ≡ true → 0 < length w
+filled [] e = absurd (cc)
+filled (b ∷ w) e = omega arith
 
-bytes_of_name : (w : List ℕ) → list_all config.is_name_byte w ≡ true → list_all is_name_byte w ≡ true
-bytes_of_name [] e = refl
-bytes_of_name (b ∷ w) e =
-    let parts = and_parts (config.is_name_byte b) (list_all config.is_name_byte w) e in
-    and_from (is_name_byte b) (list_all is_name_byte w) (byte_of_name b parts.0) (bytes_of_name w parts.1)
+name_is : (w : List ℕ) → is_name w ≡ true → IsName w
+name_is w e = let parts = and_parts (not (length w == 0)) (list_all is_name_byte w) e in (filled w parts.0, parts.1)
 
-name_is : (w : List ℕ) → IsGoodName w → IsName w
-name_is w good = (good.some, bytes_of_name w good.each)
-
--- the route of a configuration that was read has names
-pub route_named : (text : List ℕ) (m : Meaning) (r : Route) → meaning_of text ≡ Ok m → HasRoute m r → IsNamed r
-route_named text m r is h =
-    let good = backs_are_good text m is h.back [] h.backs in
-    let back : IsName h.back.name = name_is h.back.name good.0 in
-    let server : IsName h.server.name = name_is h.server.name (subst (λ (ss : List Server). GoodServers ss) h.servers good.1).0 in
+-- the route of a configuration with names has names
+pub route_named : (m : Meaning) (r : Route) → list_all has_names m.backs ≡ true → HasRoute m r → IsNamed r
+route_named m r named h =
+    let one : list_all has_names (h.back ∷ []) ≡ true = ap (list_all has_names) (sym h.backs) ∙ named in
+    let parts = and_parts (is_name h.back.name) (are_servers_named h.back.servers) (and_parts (has_names h.back) true one).0 in
+    let each : are_servers_named (h.server ∷ []) ≡ true = ap are_servers_named (sym h.servers) ∙ parts.1 in
+    let back : IsName h.back.name = name_is h.back.name parts.0 in
+    let server : IsName h.server.name = name_is h.server.name (and_parts (is_name h.server.name) true each).0 in
     subst IsNamed (sym h.is) (record { back = back; server = server })
 
 pub one_route : (m : Meaning) (r s : Route) → HasRoute m r → HasRoute m s → r ≡ s

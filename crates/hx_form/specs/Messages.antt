@@ -5,6 +5,7 @@ use Rattle.hx_message.specs.Forwarded.{ForwardsRequest, ForwardsAnswer}
 use Rattle.hx_message.specs.Message.{IsRequest, IsAnswer, WantsClose, RunsToEnd, Persists}
 use Rattle.hx_head.specs.Limits.{IsShortRequest, IsShortAnswer}
 
+-- the messages of one exchange, on both links
 pub record Messages : Type 0 where
   pub method : MethodKind
   pub ask : List ℕ

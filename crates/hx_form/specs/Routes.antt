@@ -4,7 +4,7 @@ use Rattle.hx_config.specs.Meaning.{Meaning}
 use Rattle.hx_config.specs.declared.parts.Back.{Back}
 use Rattle.hx_config.specs.declared.parts.Front.{Front}
 use Rattle.hx_config.specs.declared.parts.Server.{Server}
-use Rattle.hx_script.specs.PrintedForm.{IsName}
+use Rattle.hx_base.specs.Names.{IsName}
 use Rattle.hx_form.specs.declared.route.Route.{Route}
 
 -- the names of a backend and of a server, the server's address and its rules

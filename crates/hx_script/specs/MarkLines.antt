@@ -19,7 +19,7 @@ who t n = decimal t.0 ++ codes "." ++ decimal n.0
 abbrev pub place_text : PlaceNo → List ℕ
 place_text p = decimal p.row ++ codes ":" ++ decimal p.place
 
--- the list that a take was made from
+-- whether a take was made for the first request of its session
 abbrev pub first_text : Bool → List ℕ
 first_text first = if first then codes " first\n" else codes " later\n"
 

@@ -1,7 +1,6 @@
 -- Which parts make a transcript, so that it has a printed form of its own.
-use Rattle.std.specs.Prelude.{◌≡◌, ◌⊎◌, ℕ, ◌<◌, Bool, true, false, ◌||◌, List, [], ◌∷◌, length, All, IsTrue, ◌==◌, ⊤}
-use Rattle.std.specs.Char.{is_ascii_alphanumeric}
-use Rattle.std.specs.List.{list_all}
+use Rattle.std.specs.Prelude.{◌≡◌, ◌⊎◌, ℕ, ◌<◌, true, false, List, [], ◌∷◌, length, All, ⊤}
+pub use Rattle.hx_base.specs.Names.{is_name_byte, IsName}
 use Rattle.hx_base.specs.declared.totals.Totals.{Totals}
 use Rattle.hx_pool.specs.declared.entries.Entry.{Entry}
 use Rattle.hx_pool.specs.declared.entries.Entry.TheVariants as entry
@@ -13,14 +12,6 @@ use Rattle.hx_record.specs.declared.served.Kind.TheVariants as kind
 use Rattle.hx_record.specs.declared.served.Told.{Told}
 use Rattle.hx_record.specs.declared.served.Told.TheVariants as told
 use Rattle.hx_script.specs.declared.transcript.ServerPart.{ServerPart}
-
--- a letter, a digit, or one of - _ . :
-abbrev pub is_name_byte : ℕ → Bool
-is_name_byte b = is_ascii_alphanumeric b || b == 45 || b == 95 || b == 46 || b == 58
-
--- the name of a backend or of a server
-abbrev pub IsName : List ℕ → Type 0
-IsName name = (0 < length name) × IsTrue (list_all is_name_byte name)
 
 -- each two that follow each other stand in that order
 abbrev pub Rises : {A : Type 0} → (A → A → Type 0) → List A → Type 0

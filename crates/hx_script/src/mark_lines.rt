@@ -8,6 +8,7 @@ use crate::transcript::ServerPart;
 use hx_base::{ConnId, Mode, NoMemory, PlaceNo, SessionNo, ThreadNo};
 use hx_pool::Entry;
 
+// The word of a mark, its session and its connection.
 fn put_id(
     out: &mut Vec<u8>,
     word: &[u8],
@@ -21,6 +22,20 @@ fn put_id(
     put_who(out, t, n)?;
     put(out, b" ")?;
     put_number(out, id.0)
+}
+
+// The same, where nothing follows.
+fn put_whole(
+    out: &mut Vec<u8>,
+    word: &[u8],
+    t: ThreadNo,
+    n: SessionNo,
+    id: ConnId,
+) -> Result<(), NoMemory>
+    ensures { OnOk result (out.new.items ≡ out.old.items ++ word.now ++ who_conn t n id ++ codes "\n") }
+{
+    put_id(out, word, t, n, id)?;
+    put(out, b"\n")
 }
 
 fn put_rest(out: &mut Vec<u8>, place: PlaceNo, uses: u16) -> Result<(), NoMemory>
@@ -44,6 +59,14 @@ fn gate_word(draining: bool) -> &'static [u8]
     if draining { b" drain\n" } else { b" ready\n" }
 }
 
+fn put_gate(out: &mut Vec<u8>, t: ThreadNo, draining: bool) -> Result<(), NoMemory>
+    ensures { OnOk result (out.new.items ≡ out.old.items ++ codes "gate " ++ decimal t.0 ++ gate_text draining) }
+{
+    put(out, b"gate ")?;
+    put_number(out, u64::from(t.0))?;
+    put(out, gate_word(draining))
+}
+
 #[tactic(auto, unfolding(crate::specs::MarkLines::round_line))]
 fn put_round(out: &mut Vec<u8>, t: ThreadNo, k: u64, old: u64) -> Result<(), NoMemory>
     ensures { OnOk result (out.new.items ≡ out.old.items ++ round_line t k old) }
@@ -63,10 +86,7 @@ pub(crate) fn put_mark(out: &mut Vec<u8>, mark: Entry) -> Result<(), NoMemory>
     ensures { OnOk result (out.new.items ≡ out.old.items ++ mark_line mark) }
 {
     match mark {
-        Entry::Open { t, n, id } => {
-            put_id(out, b"open ", t, n, id)?;
-            put(out, b"\n")
-        }
+        Entry::Open { t, n, id } => put_whole(out, b"open ", t, n, id),
         Entry::Park {
             t,
             n,
@@ -90,15 +110,8 @@ pub(crate) fn put_mark(out: &mut Vec<u8>, mark: Entry) -> Result<(), NoMemory>
             put_rest(out, place, uses)?;
             put(out, first_word(first))
         }
-        Entry::Close { t, n, id } => {
-            put_id(out, b"close ", t, n, id)?;
-            put(out, b"\n")
-        }
-        Entry::SetGate { t, draining } => {
-            put(out, b"gate ")?;
-            put_number(out, u64::from(t.0))?;
-            put(out, gate_word(draining))
-        }
+        Entry::Close { t, n, id } => put_whole(out, b"close ", t, n, id),
+        Entry::SetGate { t, draining } => put_gate(out, t, draining),
         Entry::Round { t, k, old } => put_round(out, t, k, old),
         Entry::Free { .. } => Ok(()),
         Entry::Look { .. } => Ok(()),

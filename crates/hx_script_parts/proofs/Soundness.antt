@@ -21,6 +21,9 @@ use Rattle.hx_config.specs.declared.parts.Back.{Back}
 use Rattle.hx_config.specs.declared.parts.Front.{Front}
 use Rattle.hx_config.specs.declared.parts.Server.{Server}
 use Rattle.hx_base.specs.declared.plan.Plan.{Plan}
+use Rattle.hx_base.specs.declared.plan.Piece.{Piece}
+use Rattle.hx_link.specs.Planned.{planned}
+use Rattle.hx_script_parts.proofs.Sizes.{size, sizes, word_small, number_small, moment_small, text_small, client_pushed, plan_pushed, piece_pushed, lines_sized}
 use Rattle.hx_script_parts.specs.declared.fault.Rule.{Rule}
 use Rattle.hx_script_parts.specs.declared.fault.Rule.TheVariants.{BadNumber, BadLine, BadWorker, WrongPlace, MomentFalls, TooMany, NoSuchFrontend, NoSuchServer}
 use Rattle.hx_script_parts.specs.declared.fault.Flaw.{Flaw}
@@ -35,24 +38,24 @@ use Rattle.hx_script_parts.specs.declared.reading.Reading.{Reading}
 use Rattle.hx_script_parts.specs.declared.script.ClientLine.{ClientLine}
 use Rattle.hx_script_parts.specs.Faults.{◌>>=◌, unless, located}
 use Rattle.hx_script_parts.specs.Keywords.{first_words}
-use Rattle.hx_script_parts.specs.Lexical.{Rest, word_at, text_at, at_end}
-use Rattle.hx_script_parts.specs.Limits.{is_positive, is_client_of, is_server_of, is_plan_of, server_of, is_order_of, comes_before, are_rising, IsWithin}
+use Rattle.hx_script_parts.specs.Lexical.{Rest, lines_of, word_at, text_at, at_end}
+use Rattle.hx_script_parts.specs.Limits.{is_positive, is_client_of, is_server_of, is_plan_of, server_of, is_order_of, comes_before, are_rising, longest_text, client_bytes, plan_bytes, IsWithin}
 use Rattle.hx_script_parts.specs.Meaning.{lines_read}
 use Rattle.hx_script_parts.specs.Names.{found_or, front_from, is_named, server_in, server_among, front_at, server_at, worker_below, worker_at}
 use Rattle.hx_script_parts.specs.Numbers.{greatest, is_decimal, number_in, number_at, moment_at}
 use Rattle.hx_script_parts.specs.Reading.{with_moment, as_moments, empty_link, plan_of, with_plan, ended, closed, with_link, at_moment, is_refused, link_of, link_at, nothing_read}
-use Rattle.hx_script_parts.specs.Sound.{clients_in, plans_in, is_owner_of, clients_open, plans_open, is_link_of, IsSound}
+use Rattle.hx_script_parts.specs.Sound.{clients_in, plans_in, is_owner_of, clients_open, plans_open, is_link_of, bytes_open, IsSound}
 use Rattle.hx_script_parts.specs.Statements as means
 use Rattle.hx_config.specs.Numbers.{value}
 
 -- what is read is sound, where something is read
-abbrev pub Keeps : config.Meaning → Result Reading Rule → Type 0
-Keeps c x = IfOk x (IsSound c)
+abbrev pub Keeps : config.Meaning → ℕ → Result Reading Rule → Type 0
+Keeps c n x = IfOk x (IsSound c n)
 
 -- a reading after another one
-then_keeps : {A : Type 0} (c : config.Meaning) (q : Result A Rule) (f : A → Result Reading Rule) → ((a : A) → q ≡ Ok a → Keeps c (f a)) → Keeps c (q >>= f)
-then_keeps c (Ok a) f h = h a refl
-then_keeps c (Err e) f h = tt
+then_keeps : {A : Type 0} (c : config.Meaning) (n : ℕ) (q : Result A Rule) (f : A → Result Reading Rule) → ((a : A) → q ≡ Ok a → Keeps c n (f a)) → Keeps c n (q >>= f)
+then_keeps c n (Ok a) f h = h a refl
+then_keeps c n (Err e) f h = tt
 
 bind_ok : {A B E : Type 0} (r : Result A E) (f : A → Result B E) (y : B) → (r >>= f) ≡ Ok y → (x : A) × (r ≡ Ok x) × (f x ≡ Ok y)
 bind_ok (Ok x) f y e = (x, refl, e)
@@ -193,14 +196,15 @@ zero_first (y ∷ ys) =
     in_order 0 y (λ o. slice_get (as_moments (match_ordering o (0 ∷ y ∷ ys) (y ∷ ys) (y ∷ insert_key nat_cmp ys 0))) 0 ≡ Some (record { 0 = 0 }))
     (λ _. refl) (λ same. ap (λ (n : ℕ). Some (record { 0 = n })) (sym same)) (λ gt. absurd (omega (arith, gt)))
 
-kept_moment : (c : config.Meaning) (m : Millis) (r : Reading) → IsSound c r → IsSound c (at_moment m r)
-kept_moment c m r h = record {
+kept_moment : (c : config.Meaning) (n : ℕ) (m : Millis) (r : Reading) → IsSound c n r → IsSound c n (at_moment m r)
+kept_moment c n m r h = record {
   clients = h.clients;
   plans = h.plans;
   clients_hold = h.clients_hold;
   plans_hold = h.plans_hold;
   orders_hold = h.orders_hold;
   current = h.current;
+  bytes = h.bytes;
   rising = rising_insert r.moments m.0 h.rising;
 }
 
@@ -210,10 +214,11 @@ all_pushed : {A : Type 0} (p : A → Bool) (xs : List A) (x : A) → list_all p 
 all_pushed p [] x each here = and_from _ _ here refl
 all_pushed p (y ∷ ys) x each here = let parts = and_parts (p y) (list_all p ys) each in and_from _ _ parts.0 (all_pushed p ys x parts.1 here)
 
-plan_added : (c : config.Meaning) (w : Owner) (l : OpenLink) (r : Reading) → length r.clients + clients_in w ≤ 1000 → length r.plans + plans_in w ≤ 4096
+plan_added : (c : config.Meaning) (n : ℕ) (w : Owner) (l : OpenLink) (r : Reading) → length r.clients + clients_in w ≤ 1000 → length r.plans + plans_in w ≤ 4096
     → list_all (is_client_of c) r.clients ≡ true → list_all (is_plan_of c) r.plans ≡ true → list_all (is_order_of c) r.orders ≡ true → is_owner_of c w ≡ true
-    → (is_positive l.room && is_positive l.fail) ≡ true → are_rising (as_moments r.moments) ≡ true → IsSound c (with_plan w l (record r { current = None }))
-plan_added c (owner.Client front worker moment) l r clients plans clients_hold plans_hold orders_hold own limits rising =
+    → (is_positive l.room && is_positive l.fail) ≡ true → client_bytes r.clients + plan_bytes r.plans + length (planned l.pieces) ≤ n
+    → are_rising (as_moments r.moments) ≡ true → IsSound c n (with_plan w l (record r { current = None }))
+plan_added c n (owner.Client front worker moment) l r clients plans clients_hold plans_hold orders_hold own limits bytes rising =
     let x : ClientLine = record { front = front; worker = worker; moment = moment; plan = plan_of None false l } in
     record {
       clients = omega (arith, length-append r.clients (x ∷ []));
@@ -222,9 +227,10 @@ plan_added c (owner.Client front worker moment) l r clients plans clients_hold p
       plans_hold = plans_hold;
       orders_hold = orders_hold;
       current = refl;
+      bytes = omega (arith, client_pushed r.clients x);
       rising = rising;
     }
-plan_added c (owner.Server server refuse) l r clients plans clients_hold plans_hold orders_hold own limits rising =
+plan_added c n (owner.Server server refuse) l r clients plans clients_hold plans_hold orders_hold own limits bytes rising =
     let x : Plan = plan_of (Some server) refuse l in
     record {
       clients = clients;
@@ -233,37 +239,39 @@ plan_added c (owner.Server server refuse) l r clients plans clients_hold plans_h
       plans_hold = all_pushed (is_plan_of c) r.plans x plans_hold (and_from _ _ own limits);
       orders_hold = orders_hold;
       current = refl;
+      bytes = omega (arith, plan_pushed r.plans x);
       rising = rising;
     }
 
-ended_sound : (c : config.Meaning) (o : Option OpenLink) (r : Reading) → IsSound c (record r { current = o }) → IsSound c (ended o (record r { current = None }))
-ended_sound c None r h = h
-ended_sound c (Some l) r h =
+ended_sound : (c : config.Meaning) (n : ℕ) (o : Option OpenLink) (r : Reading) → IsSound c n (record r { current = o }) → IsSound c n (ended o (record r { current = None }))
+ended_sound c n None r h = h
+ended_sound c n (Some l) r h =
     let parts = and_parts (is_owner_of c l.owner) (is_positive l.room && is_positive l.fail) h.current in
-    plan_added c l.owner l r h.clients h.plans h.clients_hold h.plans_hold h.orders_hold parts.0 parts.1 h.rising
+    plan_added c n l.owner l r h.clients h.plans h.clients_hold h.plans_hold h.orders_hold parts.0 parts.1 h.bytes h.rising
 
-closed_sound : (c : config.Meaning) (r : Reading) → IsSound c r → IsSound c (closed r)
-closed_sound c r h = ended_sound c r.current r h
+closed_sound : (c : config.Meaning) (n : ℕ) (r : Reading) → IsSound c n r → IsSound c n (closed r)
+closed_sound c n r h = ended_sound c n r.current r h
 
 -- a link that begins
 
-begun_sound : (c : config.Meaning) (line : ℕ) (w : Owner) (r : Reading) → IsSound c r → length r.clients + clients_in w ≤ 1000
-    → length r.plans + plans_in w ≤ 4096 → is_owner_of c w ≡ true → IsSound c (with_link (empty_link line w) r)
-begun_sound c line w r h clients plans own = record {
+begun_sound : (c : config.Meaning) (n : ℕ) (line : ℕ) (w : Owner) (r : Reading) → IsSound c n r → length r.clients + clients_in w ≤ 1000
+    → length r.plans + plans_in w ≤ 4096 → is_owner_of c w ≡ true → IsSound c n (with_link (empty_link line w) r)
+begun_sound c n line w r h clients plans own = record {
   clients = clients;
   plans = plans;
   clients_hold = h.clients_hold;
   plans_hold = h.plans_hold;
   orders_hold = h.orders_hold;
   current = and_from _ _ own refl;
+  bytes = omega (arith, h.bytes);
   rising = h.rising;
 }
 
 -- a link that goes on
 
-link_kept : (c : config.Meaning) (r : Reading) (l k : OpenLink) → IsSound c r → r.current ≡ Some l → k.owner ≡ l.owner
-    → (is_positive k.room && is_positive k.fail) ≡ true → IsSound c (with_link k r)
-link_kept c r l k h is own limits =
+link_kept : (c : config.Meaning) (n m j : ℕ) (r : Reading) (l k : OpenLink) → length (planned k.pieces) ≤ length (planned l.pieces) + j → n + j ≤ m → IsSound c n r → r.current ≡ Some l → k.owner ≡ l.owner
+    → (is_positive k.room && is_positive k.fail) ≡ true → IsSound c m (with_link k r)
+link_kept c n m j r l k more le h is own limits =
     let clients : clients_open r.current ≡ clients_in k.owner = ap clients_open is ∙ ap clients_in (sym own) in
     let plans : plans_open r.current ≡ plans_in k.owner = ap plans_open is ∙ ap plans_in (sym own) in
     let parts = and_parts (is_owner_of c l.owner) (is_positive l.room && is_positive l.fail) (sym (ap (is_link_of c) is) ∙ h.current) in
@@ -274,116 +282,145 @@ link_kept c r l k h is own limits =
       plans_hold = h.plans_hold;
       orders_hold = h.orders_hold;
       current = and_from _ _ (ap (is_owner_of c) own ∙ parts.0) limits;
+      bytes = (let open' : bytes_open r.current ≡ length (planned l.pieces) = ap bytes_open is in omega (arith, h.bytes, open', more, le));
       rising = h.rising;
     }
 
-limits_of : (c : config.Meaning) (r : Reading) (l : OpenLink) → IsSound c r → r.current ≡ Some l → (is_positive l.room ≡ true) × (is_positive l.fail ≡ true)
-limits_of c r l h is =
+limits_of : (c : config.Meaning) (n : ℕ) (r : Reading) (l : OpenLink) → IsSound c n r → r.current ≡ Some l → (is_positive l.room ≡ true) × (is_positive l.fail ≡ true)
+limits_of c n r l h is =
     let parts = and_parts (is_owner_of c l.owner) (is_positive l.room && is_positive l.fail) (sym (ap (is_link_of c) is) ∙ h.current) in
     and_parts (is_positive l.room) (is_positive l.fail) parts.1
 
 -- the lines
 
-client_keeps : (c : config.Meaning) (line : ℕ) (r : Reading) (ws : Rest) → IsSound c r → Keeps c (means.client_line c line r ws)
-client_keeps c line r ws h =
-    let k = closed_sound c r h in
-    then_keeps c (front_at c ws) _ (λ front front_is. then_keeps c (worker_at c front.1) _ (λ worker worker_is.
-    then_keeps c (moment_at worker.1) _ (λ m _. then_keeps c (at_end m.1) _ (λ e _.
-    then_keeps c (unless (nat_le 1000 (length (closed r).clients)) TooMany) _ (λ few few_is.
+client_keeps : (c : config.Meaning) (n : ℕ) (line : ℕ) (r : Reading) (ws : Rest) → IsSound c n r → Keeps c n (means.client_line c line r ws)
+client_keeps c n line r ws h =
+    let k = closed_sound c n r h in
+    then_keeps c n (front_at c ws) _ (λ front front_is. then_keeps c n (worker_at c front.1) _ (λ worker worker_is.
+    then_keeps c n (moment_at worker.1) _ (λ m _. then_keeps c n (at_end m.1) _ (λ e _.
+    then_keeps c n (unless (nat_le 1000 (length (closed r).clients)) TooMany) _ (λ few few_is.
     let lt = leb-false 1000 (length (closed r).clients) (held _ TooMany few few_is) in
-    kept_moment c m.0 (with_link (empty_link line (owner.Client front.0 worker.0 m.0)) (closed r))
-    (begun_sound c line (owner.Client front.0 worker.0 m.0) (closed r) k (omega (arith, lt)) (omega (arith, k.plans))
+    kept_moment c n m.0 (with_link (empty_link line (owner.Client front.0 worker.0 m.0)) (closed r))
+    (begun_sound c n line (owner.Client front.0 worker.0 m.0) (closed r) k (omega (arith, lt)) (omega (arith, k.plans))
     (and_from _ _ (front_in c ws front front_is) (worker_in c front.1 worker worker_is))))))))
 
-server_keeps : (c : config.Meaning) (line : ℕ) (r : Reading) (ws : Rest) → IsSound c r → Keeps c (means.server_line c line r ws)
-server_keeps c line r ws h =
-    let k = closed_sound c r h in
-    then_keeps c (server_at c ws) _ (λ server server_is. then_keeps c (means.refuse_at server.1) _ (λ refuse _.
-    then_keeps c (unless (nat_le 4096 (length (closed r).plans)) TooMany) _ (λ few few_is.
+server_keeps : (c : config.Meaning) (n : ℕ) (line : ℕ) (r : Reading) (ws : Rest) → IsSound c n r → Keeps c n (means.server_line c line r ws)
+server_keeps c n line r ws h =
+    let k = closed_sound c n r h in
+    then_keeps c n (server_at c ws) _ (λ server server_is. then_keeps c n (means.refuse_at server.1) _ (λ refuse _.
+    then_keeps c n (unless (nat_le 4096 (length (closed r).plans)) TooMany) _ (λ few few_is.
     let lt = leb-false 4096 (length (closed r).plans) (held _ TooMany few few_is) in
-    begun_sound c line (owner.Server server.0 refuse) (closed r) k (omega (arith, k.clients)) (omega (arith, lt)) (server_is_of c ws server server_is))))
+    begun_sound c n line (owner.Server server.0 refuse) (closed r) k (omega (arith, k.clients)) (omega (arith, lt)) (server_is_of c ws server server_is))))
 
-piece_keeps : (c : config.Meaning) (r : Reading) (ws : Rest) → IsSound c r → Keeps c (means.piece_line r ws)
-piece_keeps c r ws h =
-    then_keeps c (moment_at ws) _ (λ m _. then_keeps c (number_at 0 greatest m.1) _ (λ sent _.
-    then_keeps c (text_at sent.1) _ (λ bytes _. then_keeps c (at_end bytes.1) _ (λ e _.
-    then_keeps c (link_at m.0 r.current) _ (λ l l_is.
-    let there = link_at_there m.0 r.current l l_is in
-    let limits = limits_of c r l h there in
-    let more : OpenLink = record l { pieces = l.pieces ++ (record { at = m.0; after = sent.0; bytes = bytes.0 }) ∷ []; latest = m.0 } in
-    kept_moment c m.0 (with_link more r) (link_kept c r l more h there refl (and_from _ _ limits.0 limits.1)))))))
+piece_keeps : (c : config.Meaning) (n m : ℕ) (r : Reading) (ws : Rest) → n + size ws ≤ m → IsSound c n r → Keeps c m (means.piece_line r ws)
+piece_keeps c n m r ws le h =
+    then_keeps c m (moment_at ws) _ (λ t t_is. then_keeps c m (number_at 0 greatest t.1) _ (λ sent sent_is.
+    then_keeps c m (text_at sent.1) _ (λ bytes bytes_is. then_keeps c m (at_end bytes.1) _ (λ e _.
+    then_keeps c m (link_at t.0 r.current) _ (λ l l_is.
+    let there = link_at_there t.0 r.current l l_is in
+    let limits = limits_of c n r l h there in
+    let a : size t.1 ≤ size ws = IfOk-at_ok (λ (x : Millis × Rest). size x.1 ≤ size ws) t_is (moment_small ws) in
+    let b : size sent.1 ≤ size t.1 = IfOk-at_ok (λ (x : ℕ × Rest). size x.1 ≤ size t.1) sent_is (number_small 0 greatest t.1) in
+    let d : length bytes.0 ≤ size sent.1 = IfOk-at_ok (λ (x : List ℕ × Rest). length x.0 ≤ size sent.1) bytes_is (text_small sent.1) in
+    let piece : Piece = record { at = t.0; after = sent.0; bytes = bytes.0 } in
+    let more : OpenLink = record l { pieces = l.pieces ++ piece ∷ []; latest = t.0 } in
+    kept_moment c m t.0 (with_link more r) (link_kept c n m (length bytes.0) r l more (omega (arith, piece_pushed l.pieces piece)) (omega arith) h there refl (and_from _ _ limits.0 limits.1)))))))
 
-end_keeps : (c : config.Meaning) (r : Reading) (ws : Rest) → IsSound c r → Keeps c (means.end_line r ws)
-end_keeps c r ws h =
-    then_keeps c (moment_at ws) _ (λ m _. then_keeps c (number_at 0 greatest m.1) _ (λ sent _. then_keeps c (at_end sent.1) _ (λ e _.
-    then_keeps c (link_at m.0 r.current) _ (λ l l_is.
+end_keeps : (c : config.Meaning) (n : ℕ) (r : Reading) (ws : Rest) → IsSound c n r → Keeps c n (means.end_line r ws)
+end_keeps c n r ws h =
+    then_keeps c n (moment_at ws) _ (λ m _. then_keeps c n (number_at 0 greatest m.1) _ (λ sent _. then_keeps c n (at_end sent.1) _ (λ e _.
+    then_keeps c n (link_at m.0 r.current) _ (λ l l_is.
     let there = link_at_there m.0 r.current l l_is in
-    let limits = limits_of c r l h there in
+    let limits = limits_of c n r l h there in
     let more : OpenLink = record l { end = Some (m.0, sent.0) } in
-    kept_moment c m.0 (with_link more r) (link_kept c r l more h there refl (and_from _ _ limits.0 limits.1))))))
+    kept_moment c n m.0 (with_link more r) (link_kept c n n 0 r l more (omega arith) (omega arith) h there refl (and_from _ _ limits.0 limits.1))))))
 
-room_keeps : (c : config.Meaning) (r : Reading) (ws : Rest) → IsSound c r → Keeps c (means.room_line r ws)
-room_keeps c r ws h =
-    then_keeps c (number_at 1 greatest ws) _ (λ n n_is. then_keeps c (at_end n.1) _ (λ e _. then_keeps c (link_of r.current) _ (λ l l_is.
-    then_keeps c (unless (is_some l.room) WrongPlace) _ (λ once _.
+room_keeps : (c : config.Meaning) (n : ℕ) (r : Reading) (ws : Rest) → IsSound c n r → Keeps c n (means.room_line r ws)
+room_keeps c n r ws h =
+    then_keeps c n (number_at 1 greatest ws) _ (λ k k_is. then_keeps c n (at_end k.1) _ (λ e _. then_keeps c n (link_of r.current) _ (λ l l_is.
+    then_keeps c n (unless (is_some l.room) WrongPlace) _ (λ once _.
     let there = link_there r.current l l_is in
-    link_kept c r l (record l { room = Some n.0 }) h there refl (and_from _ _ (number_low 1 greatest ws n n_is) (limits_of c r l h there).1)))))
+    link_kept c n n 0 r l (record l { room = Some k.0 }) (omega arith) (omega arith) h there refl (and_from _ _ (number_low 1 greatest ws k k_is) (limits_of c n r l h there).1)))))
 
-fail_keeps : (c : config.Meaning) (r : Reading) (ws : Rest) → IsSound c r → Keeps c (means.fail_line r ws)
-fail_keeps c r ws h =
-    then_keeps c (number_at 1 greatest ws) _ (λ k k_is. then_keeps c (at_end k.1) _ (λ e _. then_keeps c (link_of r.current) _ (λ l l_is.
-    then_keeps c (unless (is_some l.fail) WrongPlace) _ (λ once _.
+fail_keeps : (c : config.Meaning) (n : ℕ) (r : Reading) (ws : Rest) → IsSound c n r → Keeps c n (means.fail_line r ws)
+fail_keeps c n r ws h =
+    then_keeps c n (number_at 1 greatest ws) _ (λ k k_is. then_keeps c n (at_end k.1) _ (λ e _. then_keeps c n (link_of r.current) _ (λ l l_is.
+    then_keeps c n (unless (is_some l.fail) WrongPlace) _ (λ once _.
     let there = link_there r.current l l_is in
-    link_kept c r l (record l { fail = Some k.0 }) h there refl (and_from _ _ (limits_of c r l h there).0 (number_low 1 greatest ws k k_is))))))
+    link_kept c n n 0 r l (record l { fail = Some k.0 }) (omega arith) (omega arith) h there refl (and_from _ _ (limits_of c n r l h there).0 (number_low 1 greatest ws k k_is))))))
 
-order_keeps : (what : OrderWord) (c : config.Meaning) (r : Reading) (ws : Rest) → IsSound c r → Keeps c (means.order_line what c r ws)
-order_keeps what c r ws h =
-    then_keeps c (moment_at ws) _ (λ m _. then_keeps c (server_at c m.1) _ (λ server server_is. then_keeps c (at_end server.1) _ (λ e _.
+order_keeps : (what : OrderWord) (c : config.Meaning) (n : ℕ) (r : Reading) (ws : Rest) → IsSound c n r → Keeps c n (means.order_line what c r ws)
+order_keeps what c n r ws h =
+    then_keeps c n (moment_at ws) _ (λ m _. then_keeps c n (server_at c m.1) _ (λ server server_is. then_keeps c n (at_end server.1) _ (λ e _.
     let more : Reading = record r { orders = r.orders ++ (m.0, means.order_of what server.0) ∷ [] } in
-    kept_moment c m.0 more (record {
+    kept_moment c n m.0 more (record {
       clients = h.clients;
       plans = h.plans;
       clients_hold = h.clients_hold;
       plans_hold = h.plans_hold;
       orders_hold = all_pushed (is_order_of c) r.orders (m.0, means.order_of what server.0) h.orders_hold (ap (is_server_of c) (ordered_server what server.0) ∙ server_is_of c m.1 server server_is);
       current = h.current;
+      bytes = h.bytes;
       rising = h.rising;
     }))))
 
-tick_keeps : (c : config.Meaning) (r : Reading) (ws : Rest) → IsSound c r → Keeps c (means.tick_line r ws)
-tick_keeps c r ws h = then_keeps c (moment_at ws) _ (λ m _. then_keeps c (at_end m.1) _ (λ e _. kept_moment c m.0 r h))
+tick_keeps : (c : config.Meaning) (n : ℕ) (r : Reading) (ws : Rest) → IsSound c n r → Keeps c n (means.tick_line r ws)
+tick_keeps c n r ws h = then_keeps c n (moment_at ws) _ (λ m _. then_keeps c n (at_end m.1) _ (λ e _. kept_moment c n m.0 r h))
 
-said_keeps : (f : FirstWord) (c : config.Meaning) (line : ℕ) (r : Reading) (ws : Rest) → IsSound c r → Keeps c (means.said f c line r ws)
+-- room for more bytes
+more_room : (c : config.Meaning) (n m : ℕ) (r : Reading) → n ≤ m → IsSound c n r → IsSound c m r
+more_room c n m r le h = record {
+  clients = h.clients;
+  plans = h.plans;
+  clients_hold = h.clients_hold;
+  plans_hold = h.plans_hold;
+  orders_hold = h.orders_hold;
+  current = h.current;
+  bytes = omega (arith, h.bytes, le);
+  rising = h.rising;
+}
+
+other_keeps : (f : FirstWord) (c : config.Meaning) (n m line : ℕ) (r : Reading) (ws : Rest) → n + size ws ≤ m → IsSound c n r → IsSound c m r
+    → Keeps c m (means.said f c line r ws)
 unfolding means.said
-said_keeps first.Client c line r ws h = client_keeps c line r ws h
-said_keeps first.Server c line r ws h = server_keeps c line r ws h
-said_keeps first.Piece c line r ws h = piece_keeps c r ws h
-said_keeps first.End c line r ws h = end_keeps c r ws h
-said_keeps first.Room c line r ws h = room_keeps c r ws h
-said_keeps first.Fail c line r ws h = fail_keeps c r ws h
-said_keeps first.Drain c line r ws h = order_keeps ordered.Drain c r ws h
-said_keeps first.Ready c line r ws h = order_keeps ordered.Ready c r ws h
-said_keeps first.Tick c line r ws h = tick_keeps c r ws h
+other_keeps first.Client c n m line r ws le h k = client_keeps c m line r ws k
+other_keeps first.Server c n m line r ws le h k = server_keeps c m line r ws k
+other_keeps first.Piece c n m line r ws le h k = piece_keeps c n m r ws le h
+other_keeps first.End c n m line r ws le h k = end_keeps c m r ws k
+other_keeps first.Room c n m line r ws le h k = room_keeps c m r ws k
+other_keeps first.Fail c n m line r ws le h k = fail_keeps c m r ws k
+other_keeps first.Drain c n m line r ws le h k = order_keeps ordered.Drain c m r ws k
+other_keeps first.Ready c n m line r ws le h k = order_keeps ordered.Ready c m r ws k
+other_keeps first.Tick c n m line r ws le h k = tick_keeps c m r ws k
 
-line_keeps : (c : config.Meaning) (line : ℕ) (r : Reading) (l : List ℕ) → IsSound c r → Keeps c (means.line_read c line r l)
+said_keeps : (f : FirstWord) (c : config.Meaning) (n m line : ℕ) (r : Reading) (ws : Rest) → n + size ws ≤ m → IsSound c n r
+    → Keeps c m (means.said f c line r ws)
+said_keeps f c n m line r ws le h = other_keeps f c n m line r ws le h (more_room c n m r (omega (arith, le)) h)
+
+line_keeps : (c : config.Meaning) (n line : ℕ) (r : Reading) (l : List ℕ) → IsSound c n r → Keeps c (n + length l) (means.line_read c line r l)
 unfolding means.line_read
-line_keeps c line r l h =
-    then_keeps c (word_at (Some l)) _ (λ x _. then_keeps c (found_or BadLine (found first_words x.0)) _ (λ f _. said_keeps f c line r x.1 h))
+line_keeps c n line r l h =
+    let m = n + length l in
+    then_keeps c m (word_at (Some l)) _ (λ x x_is. then_keeps c m (found_or BadLine (found first_words x.0)) _ (λ f _.
+    let small : size x.1 ≤ length l = IfOk-at_ok (λ (y : List ℕ × Rest). size y.1 ≤ length l) x_is (word_small (Some l)) in
+    said_keeps f c n m line r x.1 (omega (arith, small)) h))
 
 -- the whole text
 
-located_keeps : (c : config.Meaning) (line : ℕ) (x : Result Reading Rule) (f : Reading → Result Reading Flaw) → Keeps c x
-    → ((s : Reading) → IsSound c s → IfOk (f s) (IsSound c)) → IfOk (located line x >>= f) (IsSound c)
-located_keeps c line (Ok s) f k h = h s k
-located_keeps c line (Err e) f k h = tt
+located_keeps : (c : config.Meaning) (n m line : ℕ) (x : Result Reading Rule) (f : Reading → Result Reading Flaw) → Keeps c n x
+    → ((s : Reading) → IsSound c n s → IfOk (f s) (IsSound c m)) → IfOk (located line x >>= f) (IsSound c m)
+located_keeps c n m line (Ok s) f k h = h s k
+located_keeps c n m line (Err e) f k h = tt
 
-lines_keep : (c : config.Meaning) (line : ℕ) (r : Reading) (ls : List (List ℕ)) → IsSound c r → IfOk (lines_read c line r ls) (IsSound c)
+lines_keep : (c : config.Meaning) (n m line : ℕ) (r : Reading) (ls : List (List ℕ)) → n + sizes ls ≤ m → IsSound c n r
+    → IfOk (lines_read c line r ls) (IsSound c m)
 unfolding lines_read
-lines_keep c line r [] h = h
-lines_keep c line r (l ∷ ls) h =
-    located_keeps c line (means.line_read c line r l) (λ s. lines_read c (line + 1) s ls) (line_keeps c line r l h) (λ s k. lines_keep c (line + 1) s ls k)
+lines_keep c n m line r [] le h = more_room c n m r (omega (arith, le)) h
+lines_keep c n m line r (l ∷ ls) le h =
+    located_keeps c (n + length l) m line (means.line_read c line r l) (λ s. lines_read c (line + 1) s ls) (line_keeps c n line r l h)
+    (λ s k. lines_keep c (n + length l) m (line + 1) s ls (omega (arith, le)) k)
 
-nothing_sound : (c : config.Meaning) → IsSound c nothing_read
+nothing_sound : (c : config.Meaning) → IsSound c 0 nothing_read
 nothing_sound c = record {
   clients = omega arith;
   plans = omega arith;
@@ -391,28 +428,32 @@ nothing_sound c = record {
   plans_hold = refl;
   orders_hold = refl;
   current = refl;
+  bytes = omega arith;
   rising = refl;
 }
 
-pub text_sound : (c : config.Meaning) (line : ℕ) (ls : List (List ℕ)) (r : Reading) → lines_read c line nothing_read ls ≡ Ok r → IsSound c r
-text_sound c line ls r is = IfOk-at_ok (IsSound c) is (lines_keep c line nothing_read ls (nothing_sound c))
+pub text_sound : (c : config.Meaning) (most line : ℕ) (text : List ℕ) (r : Reading) → length text ≤ most
+    → lines_read c line nothing_read (lines_of text) ≡ Ok r → IsSound c most r
+text_sound c most line text r short is =
+    IfOk-at_ok (IsSound c most) is (lines_keep c 0 most line nothing_read (lines_of text) (omega (arith, short, lines_sized text)) (nothing_sound c))
 
-pub script_within : (c : config.Meaning) (r : Reading) → IsSound c r
+pub script_within : (c : config.Meaning) (r : Reading) → IsSound c longest_text r
     → IsWithin c (closed r).clients (closed r).plans (closed r).orders (as_moments (with_moment (record { 0 = 0 }) (closed r).moments))
 script_within c r h =
-    let k = closed_sound c r h in
+    let k = closed_sound c longest_text r h in
     record {
       clients_in = omega (arith, k.clients);
       plans_in = omega (arith, k.plans);
       clients_hold = k.clients_hold;
       plans_hold = k.plans_hold;
       orders_hold = k.orders_hold;
+      bytes_in = omega (arith, k.bytes);
       begins = zero_first (closed r).moments;
       rising = rising_insert (closed r).moments 0 k.rising;
     }
 
 -- the same of what calls left and gave
-pub given_within : (c : config.Meaning) (r t : Reading) (u : List ℕ) (clients : List ClientLine) (plans : List Plan) (orders : List (Millis × Order)) (moments : List Millis) → IsSound c r
+pub given_within : (c : config.Meaning) (r t : Reading) (u : List ℕ) (clients : List ClientLine) (plans : List Plan) (orders : List (Millis × Order)) (moments : List Millis) → IsSound c longest_text r
     → ◌≡◌ {A = Result Reading Rule} (Ok (closed r)) (Ok t) → ◌≡◌ {A = Result (List ℕ) Rule} (Ok (with_moment (record { 0 = 0 }) t.moments)) (Ok u)
     → clients ≡ t.clients → plans ≡ t.plans → orders ≡ t.orders → ◌≡◌ {A = Result (List Millis) Rule} (Ok (as_moments u)) (Ok moments) → IsWithin c clients plans orders moments
 given_within c r t u clients plans orders moments h over added clients_is plans_is orders_is moments_is =

@@ -61,6 +61,7 @@ abbrev pub behind_text : List ℕ → List ℕ → Result (List ℕ × Rest) Rul
 behind_text bytes [] = Ok (bytes, None)
 behind_text bytes (b ∷ bs) = if b == 32 then Ok (bytes, Some bs) else Err BadText
 
+-- the byte text that was read, and what is left behind it
 abbrev pub read_text : Option (List ℕ × List ℕ) → Result (List ℕ × Rest) Rule
 read_text None = Err BadText
 read_text (Some x) = behind_text x.0 x.1

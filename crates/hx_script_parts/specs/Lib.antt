@@ -8,6 +8,7 @@ pub mod Names
 pub mod Numbers
 pub mod QuotedReading
 pub mod Reading
+pub mod Samples
 pub mod Sound
 pub mod Statements
 pub mod Views

@@ -14,6 +14,7 @@ use Rattle.hx_script_parts.specs.declared.reading.Reading.{Reading}
 use Rattle.hx_script_parts.specs.declared.script.ClientLine.{ClientLine}
 use Rattle.hx_script_parts.specs.Faults.{◌>>=◌, unless, located}
 use Rattle.hx_script_parts.specs.Lexical.{Rest, lines_of, first_line, behind, in_front, word_at, at_end}
+pub use Rattle.hx_script_parts.specs.Limits.{longest_text}
 use Rattle.hx_script_parts.specs.Numbers.{greatest, number_at}
 use Rattle.hx_script_parts.specs.Reading.{nothing_read, closed, with_moment, as_moments}
 use Rattle.hx_script_parts.specs.Statements.{line_read}
@@ -26,6 +27,7 @@ pub record Meaning : Type 0 where
   pub orders : List (Millis × Order)
   pub moments : List Millis
 
+-- what stands behind a first line of this format and version
 abbrev pub begun : Option (List ℕ × List ℕ) → Result (List ℕ) Flaw
 begun None = Err (flaw.Line 1 BadFirstLine)
 begun (Some x) = if bytes_eq x.0 (codes "hx-script 1") then Ok x.1 else Err (flaw.Line 1 BadFirstLine)
@@ -43,6 +45,7 @@ config_line ws = do
   e ← at_end n.1
   Ok n.0
 
+-- the number that the second line says, and what stands behind that line
 abbrev pub counted : Option (List ℕ × List ℕ) → Result (ℕ × List ℕ) Flaw
 counted None = Err (flaw.Line 2 BadLine)
 counted (Some x) = do
@@ -58,6 +61,7 @@ abbrev pub configured : Result config.Meaning config_fault.Flaw → Result confi
 configured (Ok c) = Ok c
 configured (Err f) = Err (flaw.Config f.line (code_of f.rule))
 
+-- the configuration that the text is up to its rest, and the rest
 abbrev pub cut : List ℕ → Option (List ℕ) → Result (config.Meaning × List ℕ) Flaw
 cut text None = Err (flaw.Line 2 BadLine)
 cut text (Some rest) = do
@@ -83,10 +87,7 @@ meaning_with c r = record {
   moments = as_moments (with_moment (record { 0 = 0 }) r.moments);
 }
 
--- the greatest length of a text
-abbrev pub longest_text : ℕ
-longest_text = 1048576
-
+-- what the lines behind the configuration mean: n is how many lines it has
 abbrev pub lines_meant : ℕ → config.Meaning × List ℕ → Result Meaning Flaw
 lines_meant n x = do
   r ← lines_read x.0 (n + 3) nothing_read (lines_of x.1)

@@ -1,4 +1,4 @@
--- Private: reading a byte text from the left, one byte after the other.
+-- Reading a byte text from the left, one byte after the other.
 use Rattle.std.specs.Prelude.{ℕ, ◌+◌, ◌-◌, ◌*◌, ◌&&◌, ◌||◌, List, [], ◌∷◌, ◌++◌, Option, Some, None, if◌then◌else◌, ◌==◌, nat_le, nat_lt}
 use Rattle.hx_script_parts.specs.declared.quoted.ReadMode.{ReadMode}
 use Rattle.hx_script_parts.specs.declared.quoted.ReadMode.TheVariants.{InText, AfterBackslash, AfterX, AfterDigit}

@@ -17,6 +17,7 @@ use Rattle.hx_script_parts.specs.declared.reading.Reading.{Reading}
 abbrev pub with_moment : Millis → List ℕ → List ℕ
 with_moment m ms = insert_key nat_cmp ms m.0
 
+-- numbers as moments
 abbrev pub as_moments : List ℕ → List Millis
 as_moments ms = map (λ m. record { 0 = m }) ms
 
@@ -53,6 +54,7 @@ with_plan (owner.Server server refuse) l r = record r {
   plans = r.plans ++ plan_of (Some server) refuse l ∷ [];
 }
 
+-- a link that was open is over
 abbrev pub ended : Option OpenLink → Reading → Reading
 ended None r = r
 ended (Some l) r = with_plan l.owner l r

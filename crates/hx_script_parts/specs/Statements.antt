@@ -21,10 +21,11 @@ use Rattle.hx_script_parts.specs.Names.{found_or, front_at, server_at, worker_at
 use Rattle.hx_script_parts.specs.Numbers.{greatest, number_at, moment_at}
 use Rattle.hx_script_parts.specs.Reading.{empty_link, closed, with_link, at_moment, link_of, link_at}
 
--- the most clients, and the most server lines
+-- the most clients
 abbrev pub most_clients : ℕ
 most_clients = 1000
 
+-- the most `server` lines
 abbrev pub most_plans : ℕ
 most_plans = 4096
 
@@ -95,6 +96,7 @@ fail_line r ws = do
   once ← unless (is_some l.fail) WrongPlace
   Ok (with_link (record l { fail = Some k.0 }) r)
 
+-- the order of a `drain` or a `ready` line
 abbrev pub order_of : OrderWord → ServerNo → Order
 order_of ordered.Drain s = order.Drain s
 order_of ordered.Ready s = order.Ready s

@@ -4,6 +4,7 @@
 mod fault;
 mod growing;
 mod keywords;
+mod laws;
 mod lines;
 mod moments;
 mod names;
@@ -17,6 +18,7 @@ mod statements;
 mod words;
 
 pub use fault::TextFault;
+pub use laws::samples;
 pub use lines::Lines;
 pub use quoted::{byte_text_at_front, one_byte_text, read_quoted};
 pub use read::read_script;

@@ -4,6 +4,7 @@ ghost use Rattle.hx_config.specs.Meaning as config_meaning;
 ghost use Rattle.hx_config.specs.Views as config_view;
 ghost use Rattle.hx_script_parts.specs.Faults.{Gives, Leads, IsFaultOf, stop_at};
 ghost use Rattle.hx_script_parts.specs.Lexical.{lines_of};
+ghost use Rattle.hx_script_parts.specs.Limits.{longest_text};
 ghost use Rattle.hx_script_parts.specs.Meaning as meant;
 ghost use Rattle.hx_script_parts.specs.Reading.{nothing_read, closed};
 ghost use Rattle.hx_script_parts.specs.Sound.{IsSound};
@@ -116,7 +117,7 @@ fn read_lines(alloc: Global, config: &Config, first: u32, text: &[u8]) -> Result
 }
 
 fn finish(alloc: Global, config: Config, reading: Reading) -> Result<Script, Refusal>
-    requires { IsSound (config_view.meaning config) reading }
+    requires { IsSound (config_view.meaning config) longest_text reading }
     ensures { Gives meaning result
         (Ok (meant.meaning_with (config_view.meaning config) (closed reading))) }
 {

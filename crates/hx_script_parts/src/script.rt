@@ -20,6 +20,7 @@ pub struct ClientLine {
 
 /// A script, each list in the order of its lines. It has at most 1,000 clients and 4,096 plans. The frontends and
 /// workers of its clients, and the servers of its plans and orders, are those of the configuration, and `room` and `fail` are at least 1.
+/// Its links have at most 1,048,576 bytes, the greatest length of a script.
 #[derive(Drop)]
 pub struct Script {
     pub config: Config,
