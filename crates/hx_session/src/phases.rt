@@ -2,6 +2,7 @@
 
 ghost use Rattle.std.specs.Prelude.{◌≡◌, ◌↔◌, ◌<◌, ◌≤◌, IsTrue, List, length, map, false, None};
 ghost use Rattle.hx_config.specs.declared.parts.Back.{Back};
+ghost use Rattle.hx_config.specs.Limits.{all_servers};
 ghost use Rattle.hx_link.specs.Nets.{NetState};
 ghost use Rattle.hx_pool.specs.SeatView.{History};
 ghost use Rattle.hx_connecting.specs.Around.{abouts};
@@ -336,6 +337,7 @@ fn do_stage<L: Link, S: Seat<Rested<L>>, N: Net<L = L>>(
     scene: Scene<'_>,
 ) -> Came<L>
     requires seats { HaveSeats scene.back.now.servers (length seats.old) }
+    requires servers { length seats.old ≡ length (all_servers scene.config.now.backs) }
     requires routed { IsRoutedTo scene.back.now (stage_now stage) }
     requires loop_ { (N.state net.old).loop_no ≡ desk.old.worker.0 }
     requires placed { IsPlaced (desk_now L.state desk.old) (stage_now stage) (map S.history seats.old) }
@@ -369,6 +371,7 @@ fn do_phase<L: Link, S: Seat<Rested<L>>, N: Net<L = L>>(
     scene: Scene<'_>,
 ) -> Came<L>
     requires seats { HaveSeats scene.back.now.servers (length seats.old) }
+    requires servers { length seats.old ≡ length (all_servers scene.config.now.backs) }
     requires routed { CameRouted scene.back.now came }
     requires loop_ { (N.state net.old).loop_no ≡ desk.old.worker.0 }
     requires placed { CamePlaced (desk_now L.state desk.old) came (map S.history seats.old) }
@@ -381,6 +384,7 @@ fn do_phase<L: Link, S: Seat<Rested<L>>, N: Net<L = L>>(
         return came;
     };
     let scene = Scene {
+        config: scene.config,
         front: scene.front,
         back: scene.back,
         now: scene.now,
@@ -573,6 +577,7 @@ pub(crate) fn advance<L: Link, S: Seat<Rested<L>>, N: Net<L = L>>(
     requires few { length scene.back.now.servers ≤ 32 }
     requires turn { turn.old < length scene.back.now.servers }
     requires seats { HaveSeats scene.back.now.servers (length seats.old) }
+    requires servers { length seats.old ≡ length (all_servers scene.config.now.backs) }
     requires placed { IsPlaced (desk_now L.state desk.old) (stage_now stage) (map S.history seats.old) }
     requires routed { IsRoutedTo scene.back.now (stage_now stage) }
     requires loop_ { (N.state net.old).loop_no ≡ desk.old.worker.0 }
