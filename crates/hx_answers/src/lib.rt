@@ -2,7 +2,5 @@
 #![tactic(auto)]
 
 mod own;
-#[cfg(test)]
-mod tests;
 
 pub use own::own_answer;

@@ -10,6 +10,7 @@ bytes_in bytes s = slice_range bytes s.from s.to
 abbrev pub LiesIn : Span → List ℕ → Type 0
 LiesIn s bytes = (s.from ≤ s.to) × (s.to ≤ length bytes)
 
+-- how many bytes the range has
 abbrev pub span_size : Span → ℕ
 span_size s = s.to - s.from
 

@@ -2,17 +2,17 @@
 use Rattle.std.proofs.Common.{◌≡◌, ◌≢◌, ℕ, ◌<◌, List, [], ◌∷◌, length, Result, Ok, Err, refl, sym, ap, ◌∙◌, arith}
 use Rattle.std.specs.Prelude.{IfOk}
 use Rattle.std.proofs.lemmas.Result.{IfOk-at_ok}
-use Rattle.hx_config.specs.declared.fault.Rule.{Rule}
-use Rattle.hx_config.specs.declared.fault.Rule.TheVariants.{MissingValue}
-use Rattle.hx_config.specs.declared.fault.Refusal.{Refusal}
-use Rattle.hx_config.specs.declared.fault.Refusal.TheVariants as refusal
+use Rattle.hx_config_parts.specs.declared.fault.Rule.{Rule}
+use Rattle.hx_config_parts.specs.declared.fault.Rule.TheVariants.{MissingValue}
+use Rattle.hx_config_parts.specs.declared.fault.Refusal.{Refusal}
+use Rattle.hx_config_parts.specs.declared.fault.Refusal.TheVariants as refusal
 use Rattle.hx_config.specs.declared.options.ServerOption.{ServerOption}
 use Rattle.hx_config.specs.declared.options.ServerOption.TheVariants as option
 use Rattle.hx_config.specs.declared.options.Chosen.{Chosen}
-use Rattle.hx_config.specs.Faults.{◌>>=◌, Refuses}
-use Rattle.hx_config.specs.Lexical.{with_rest, word_at, ascii_word}
+use Rattle.hx_config_parts.specs.Faults.{◌>>=◌, Refuses}
+use Rattle.hx_config_parts.specs.Lexical.{with_rest, word_at, ascii_word}
 use Rattle.hx_config.specs.Options.{known, option_words, after_option, one_option, going_on, with_value, chosen_by}
-use Rattle.hx_config.specs.Keywords.{found}
+use Rattle.hx_config_parts.specs.Tables.{found}
 
 -- a value was read, or not
 inner : (r : Result Chosen Rule) (ws : List (List ℕ)) → (r >>= λ d. chosen_by d ws) ≡ ((with_rest ws r) >>= λ d. chosen_by d.0 d.1)

@@ -4,17 +4,17 @@ use Rattle.std.specs.Prelude.{⊤, bytes_eq}
 use Rattle.std.specs.List.{remove}
 use Rattle.std.proofs.lemmas.Bool.{cond-true, cond-false}
 use Rattle.std.proofs.lemmas.List.{append-nil, drop_more, drop_all, take_more, map-append, length-map, length-take-le, set_at, get_or_at}
-use Rattle.hx_config.specs.declared.fault.Rule.TheVariants.{NoServer}
-use Rattle.hx_config.specs.declared.fault.Flaw.{Flaw}
-use Rattle.hx_config.specs.declared.fault.Stop.{Stop}
-use Rattle.hx_config.specs.declared.fault.Stop.TheVariants as stop
+use Rattle.hx_config_parts.specs.declared.fault.Rule.TheVariants.{NoServer}
+use Rattle.hx_config_parts.specs.declared.fault.Flaw.{Flaw}
+use Rattle.hx_config_parts.specs.declared.fault.Stop.{Stop}
+use Rattle.hx_config_parts.specs.declared.fault.Stop.TheVariants as stop
 use Rattle.hx_base.specs.declared.rules.Mode.{Mode}
 use Rattle.hx_config.specs.declared.parts.Front.{Front}
 use Rattle.hx_config.specs.declared.parts.Server.{Server}
 use Rattle.hx_config.specs.Sections.{with_mode}
 use Rattle.hx_config.specs.declared.sections.Frontend.{Frontend}
 use Rattle.hx_config.specs.declared.sections.Backend.{Backend}
-use Rattle.hx_config.specs.Faults.{◌>>=◌, Halts}
+use Rattle.hx_config_parts.specs.Faults.{◌>>=◌, Halts}
 use Rattle.hx_config.specs.Meaning.{placed, all_placed, place_from, is_idle, all_served}
 
 -- what was placed before

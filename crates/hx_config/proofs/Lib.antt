@@ -1,10 +1,6 @@
 pub mod Choices
-pub mod Cuts
-pub mod Endings
 pub mod Finishing
-pub mod Lexing
 pub mod ReadLines
 pub mod Servers
 pub mod Soundness
-pub mod Values
 pub mod Whole

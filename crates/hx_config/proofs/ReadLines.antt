@@ -1,13 +1,13 @@
 -- Lines, one after the other.
 use Rattle.std.proofs.Common.{◌≡◌, ℕ, suc, ◌+◌, ◌≤◌, Bool, true, false, List, [], ◌∷◌, length, Result, Ok, Err, sym, ap, ◌∙◌, arith}
 use Rattle.std.specs.Prelude.{◌==◌, ◌&&◌, cond}
-use Rattle.hx_config.specs.declared.fault.Refusal.{Refusal}
-use Rattle.hx_config.specs.declared.fault.Refusal.TheVariants as refusal
-use Rattle.hx_config.specs.declared.fault.Flaw.{Flaw}
-use Rattle.hx_config.specs.declared.fault.Rule.{Rule}
+use Rattle.hx_config_parts.specs.declared.fault.Refusal.{Refusal}
+use Rattle.hx_config_parts.specs.declared.fault.Refusal.TheVariants as refusal
+use Rattle.hx_config_parts.specs.declared.fault.Flaw.{Flaw}
+use Rattle.hx_config_parts.specs.declared.fault.Rule.{Rule}
 use Rattle.hx_config.specs.declared.reading.Reading.{Reading}
-use Rattle.hx_config.specs.Faults.{◌>>=◌, Halts, Refuses, stop_at}
-use Rattle.hx_config.specs.Lexical.{on_first, ends_line, lines_of, words_of}
+use Rattle.hx_config_parts.specs.Faults.{◌>>=◌, Halts, Refuses, stop_at}
+use Rattle.hx_config_parts.specs.Lexical.{on_first, ends_line, lines_of, words_of}
 use Rattle.hx_config.specs.Statements.{line_read}
 use Rattle.hx_config.specs.Meaning.{located, lines_read}
 

@@ -6,10 +6,10 @@ use Rattle.std.proofs.lemmas.List.{append-nil, length-append, length-map}
 use Rattle.std.proofs.lemmas.Bool.{and_parts, and_from, eq-eqb, leb-true, leb-false, le-leb, or_parts, or_left, or_right}
 use Rattle.hx_base.specs.declared.rules.Mode.{Mode}
 use Rattle.std.proofs.lemmas.Result.{IfOk-at_ok}
-use Rattle.hx_config.specs.declared.fault.Rule.{Rule}
-use Rattle.hx_config.specs.declared.fault.Rule.TheVariants.{BadNumber, UnknownWord, WrongPlace, DoubleName, TooMany}
+use Rattle.hx_config_parts.specs.declared.fault.Rule.{Rule}
+use Rattle.hx_config_parts.specs.declared.fault.Rule.TheVariants.{BadNumber, UnknownWord, WrongPlace, DoubleName, TooMany}
 use Rattle.hx_config.specs.Places.{stands_in, timeout_words, treatment_of, option_lines}
-use Rattle.hx_config.specs.declared.fault.Flaw.{Flaw}
+use Rattle.hx_config_parts.specs.declared.fault.Flaw.{Flaw}
 use Rattle.hx_config.specs.declared.keywords.FirstWord.{FirstWord}
 use Rattle.hx_config.specs.declared.keywords.FirstWord.TheVariants as first
 use Rattle.hx_config.specs.declared.keywords.Treatment.{Treatment}
@@ -23,17 +23,18 @@ use Rattle.hx_config.specs.declared.sections.Section.{Section}
 use Rattle.hx_config.specs.declared.sections.Frontend.{Frontend}
 use Rattle.hx_config.specs.declared.sections.Backend.{Backend}
 use Rattle.hx_config.specs.declared.reading.Reading.{Reading}
-use Rattle.hx_config.specs.declared.fault.Refusal.{Refusal}
-use Rattle.hx_config.specs.Faults.{◌>>=◌, Gives}
-use Rattle.hx_config.specs.Lexical.{no_words, words_of, word_at, at_end}
+use Rattle.hx_config_parts.specs.declared.fault.Refusal.{Refusal}
+use Rattle.hx_config_parts.specs.Faults.{◌>>=◌, Gives}
+use Rattle.hx_config_parts.specs.Lexical.{no_words, words_of, word_at, at_end}
 use Rattle.hx_config.specs.declared.options.Chosen.{Chosen}
 use Rattle.hx_base.specs.declared.address.Address.{Address}
-use Rattle.hx_config.specs.Addresses.{server_address, bind_address, name_of}
-use Rattle.hx_config.specs.Keywords.{found, is_one_of, first_word}
+use Rattle.hx_config_parts.specs.Addresses.{server_address, bind_address, name_of}
+use Rattle.hx_config.specs.Keywords.{first_word}
+use Rattle.hx_config_parts.specs.Tables.{found, is_one_of}
 use Rattle.hx_config.specs.Options.{chosen_by}
 use Rattle.hx_base.specs.Names.{is_name}
 use Rattle.hx_config.specs.Limits.{are_numbered, are_servers_named, has_names}
-use Rattle.hx_config.specs.Numbers.{number_in, is_number, value, time_of}
+use Rattle.hx_config_parts.specs.Numbers.{number_in, is_number, value, time_of}
 use Rattle.hx_config.specs.Sections.{has_front, has_back, with_mode, front_of, back_of, closed, nothing_read, passing, with_values, empty_section, usual_values, first_values, has_server_named, is_double, is_full}
 use Rattle.hx_config.specs.Sound.{one_if, ended_servers, servers_so_far, few_binds, HasNames, IsSound}
 use Rattle.hx_config.specs.Statements as means

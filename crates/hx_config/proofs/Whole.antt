@@ -4,15 +4,15 @@ use Rattle.std.specs.Prelude.{◌&&◌, ◌==◌, nat_le, nat_lt, slice_get, byt
 use Rattle.std.specs.List.{list_all, list_any}
 use Rattle.std.proofs.lemmas.Bool.{cases_Bool, and_parts, and_from, and_cases, eq-eqb, lt-ltb, ltb-true, cond-true, cond-false, or_left, or_right, not_from_false}
 use Rattle.std.proofs.lemmas.List.{length-map, append-nil}
-use Rattle.hx_config.specs.declared.fault.Rule.TheVariants.{NoSuchBackend, NoServer}
-use Rattle.hx_config.specs.declared.fault.Flaw.{Flaw}
+use Rattle.hx_config_parts.specs.declared.fault.Rule.TheVariants.{NoSuchBackend, NoServer}
+use Rattle.hx_config_parts.specs.declared.fault.Flaw.{Flaw}
 use Rattle.hx_config.specs.declared.parts.Front.{Front}
 use Rattle.hx_config.specs.declared.parts.Server.{Server}
 use Rattle.hx_config.specs.declared.sections.Frontend.{Frontend}
 use Rattle.hx_config.specs.declared.sections.Backend.{Backend}
 use Rattle.hx_config.specs.declared.reading.Reading.{Reading}
 use Rattle.hx_base.specs.Names.{is_name}
-use Rattle.hx_config.specs.Faults.{◌>>=◌}
+use Rattle.hx_config_parts.specs.Faults.{◌>>=◌}
 use Rattle.hx_config.specs.Limits.{has_few_binds, all_servers, are_numbered, serves, are_served, are_fronts_named, has_names, IsWithin}
 use Rattle.hx_config.specs.Sound.{ended_servers, servers_so_far, few_binds, IsSound}
 use Rattle.hx_config.specs.Sections.{closed}

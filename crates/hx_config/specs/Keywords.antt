@@ -1,17 +1,8 @@
 -- The words that lines begin with (HAProxy 2.4 Configuration Manual, sections 3 and 4).
-use Rattle.std.specs.Prelude.{ℕ, Bool, false, ◌||◌, List, [], ◌∷◌, Option, Some, None, if◌then◌else◌, bytes_eq, codes}
+use Rattle.std.specs.Prelude.{ℕ, List, [], ◌∷◌, Option, Some, None, if◌then◌else◌, codes}
+use Rattle.hx_config_parts.specs.Tables.{found, is_one_of, or_else}
 use Rattle.hx_config.specs.declared.keywords.FirstWord.{FirstWord}
 use Rattle.hx_config.specs.declared.keywords.FirstWord.TheVariants as first
-
--- what stands beside the word in a table
-abbrev pub found : {A : Type 0} → List (List ℕ × A) → List ℕ → Option A
-found [] w = None
-found (row ∷ rows) w = if bytes_eq w row.0 then Some row.1 else found rows w
-
--- the word is one of these
-abbrev pub is_one_of : List (List ℕ) → List ℕ → Bool
-is_one_of [] w = false
-is_one_of (x ∷ xs) w = bytes_eq w x || is_one_of xs w
 
 -- the lines that begin a section
 abbrev pub section_words : List (List ℕ × FirstWord)
@@ -41,11 +32,6 @@ passed_word w =
     if is_one_of (codes "log" ∷ codes "maxconn" ∷ []) w then Some first.PassedOver
     else if is_one_of (codes "errorfile" ∷ codes "retries" ∷ []) w then Some first.PassedInOthers
     else if is_one_of global_words w then Some first.PassedInGlobal else None
-
--- the first of the two that is there
-abbrev pub or_else : {A : Type 0} → Option A → Option A → Option A
-or_else None other = other
-or_else (Some x) other = Some x
 
 -- what the first word of a line begins, where it is one
 abbrev pub first_word : List ℕ → Option FirstWord

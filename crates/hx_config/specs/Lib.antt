@@ -1,10 +1,6 @@
-pub mod Addresses
-pub mod Faults
 pub mod Keywords
-pub mod Lexical
 pub mod Limits
 pub mod Meaning
-pub mod Numbers
 pub mod Options
 pub mod Places
 pub mod Samples

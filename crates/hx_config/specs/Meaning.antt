@@ -1,16 +1,16 @@
 -- What a text means: the sections that its lines make, and the backend of each frontend; or its first fault.
 use Rattle.std.specs.Prelude.{ℕ, ◌+◌, Bool, ◌&&◌, List, [], ◌∷◌, length, map, Option, Some, None, Result, Ok, Err, ⊤, if◌then◌else◌, ◌==◌, nat_lt, bytes_eq}
 use Rattle.std.specs.List.{list_any}
-use Rattle.hx_config.specs.declared.fault.Rule.{Rule}
-use Rattle.hx_config.specs.declared.fault.Rule.TheVariants.{NoSuchBackend, TooMany, NoServer}
-use Rattle.hx_config.specs.declared.fault.Flaw.{Flaw}
+use Rattle.hx_config_parts.specs.declared.fault.Rule.{Rule}
+use Rattle.hx_config_parts.specs.declared.fault.Rule.TheVariants.{NoSuchBackend, TooMany, NoServer}
+use Rattle.hx_config_parts.specs.declared.fault.Flaw.{Flaw}
 use Rattle.hx_config.specs.declared.parts.Front.{Front}
 use Rattle.hx_config.specs.declared.parts.Back.{Back}
 use Rattle.hx_config.specs.declared.sections.Frontend.{Frontend}
 use Rattle.hx_config.specs.declared.sections.Backend.{Backend}
 use Rattle.hx_config.specs.declared.reading.Reading.{Reading}
-use Rattle.hx_config.specs.Faults.{◌>>=◌}
-use Rattle.hx_config.specs.Lexical.{lines_of, words_of}
+use Rattle.hx_config_parts.specs.Faults.{◌>>=◌}
+use Rattle.hx_config_parts.specs.Lexical.{lines_of, words_of}
 use Rattle.hx_config.specs.Sections.{nothing_read, closed}
 use Rattle.hx_config.specs.Statements.{line_read}
 

@@ -1,14 +1,14 @@
 -- The options of `server` and `default-server` lines (HAProxy 2.4 Configuration Manual, section 5.2).
 use Rattle.std.specs.Prelude.{ℕ, true, List, [], ◌∷◌, Option, Some, None, Result, Ok, Err, if◌then◌else◌, bytes_eq, codes, ⊤}
-use Rattle.hx_config.specs.declared.fault.Rule.{Rule}
-use Rattle.hx_config.specs.declared.fault.Rule.TheVariants.{UnknownWord, BadNumber}
+use Rattle.hx_config_parts.specs.declared.fault.Rule.{Rule}
+use Rattle.hx_config_parts.specs.declared.fault.Rule.TheVariants.{UnknownWord, BadNumber}
 use Rattle.hx_config.specs.declared.options.ServerOption.{ServerOption}
 use Rattle.hx_config.specs.declared.options.ServerOption.TheVariants as option
 use Rattle.hx_config.specs.declared.options.Chosen.{Chosen}
-use Rattle.hx_config.specs.Faults.{◌>>=◌}
-use Rattle.hx_config.specs.Keywords.{found}
-use Rattle.hx_config.specs.Lexical.{with_rest, word_at}
-use Rattle.hx_config.specs.Numbers.{is_number, number_in, time_of}
+use Rattle.hx_config_parts.specs.Faults.{◌>>=◌}
+use Rattle.hx_config_parts.specs.Tables.{found}
+use Rattle.hx_config_parts.specs.Lexical.{with_rest, word_at}
+use Rattle.hx_config_parts.specs.Numbers.{is_number, number_in, time_of}
 
 -- the words that name an option
 abbrev pub option_words : List (List ℕ × ServerOption)

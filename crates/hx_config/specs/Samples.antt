@@ -2,7 +2,7 @@
 use Rattle.std.specs.Prelude.{◌≡◌, ℕ, List, [], ◌∷◌, ◌++◌, Some, None, Ok, Err, codes}
 use Rattle.hx_base.specs.declared.address.Host.TheVariants as host
 use Rattle.hx_base.specs.declared.rules.Mode.TheVariants as mode
-use Rattle.hx_config.specs.declared.fault.Rule.{Rule}
+use Rattle.hx_config_parts.specs.declared.fault.Rule.{Rule}
 use Rattle.hx_config.specs.declared.parts.Server.{Server}
 use Rattle.hx_config.specs.Meaning.{Meaning, meaning_of}
 

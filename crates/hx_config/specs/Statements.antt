@@ -4,8 +4,8 @@ use Rattle.hx_base.specs.declared.numbers.Millis.{Millis}
 use Rattle.hx_base.specs.declared.rules.Mode.{Mode}
 use Rattle.hx_base.specs.declared.rules.Mode.TheVariants as mode
 use Rattle.hx_base.specs.declared.rules.PoolRules.{PoolRules}
-use Rattle.hx_config.specs.declared.fault.Rule.{Rule}
-use Rattle.hx_config.specs.declared.fault.Rule.TheVariants.{UnknownWord, WrongPlace, DoubleName, TooMany}
+use Rattle.hx_config_parts.specs.declared.fault.Rule.{Rule}
+use Rattle.hx_config_parts.specs.declared.fault.Rule.TheVariants.{UnknownWord, WrongPlace, DoubleName, TooMany}
 use Rattle.hx_config.specs.declared.keywords.FirstWord.{FirstWord}
 use Rattle.hx_config.specs.declared.keywords.FirstWord.TheVariants as first
 use Rattle.hx_config.specs.declared.keywords.TimeoutWord.{TimeoutWord}
@@ -18,11 +18,12 @@ use Rattle.hx_config.specs.declared.sections.Kind.TheVariants as kind
 use Rattle.hx_config.specs.declared.sections.Values.{Values}
 use Rattle.hx_config.specs.declared.sections.Section.{Section}
 use Rattle.hx_config.specs.declared.reading.Reading.{Reading}
-use Rattle.hx_config.specs.Addresses.{server_address, bind_address, name_of}
-use Rattle.hx_config.specs.Faults.{◌>>=◌}
-use Rattle.hx_config.specs.Keywords.{found, is_one_of, first_word}
-use Rattle.hx_config.specs.Lexical.{no_words, word_at, at_end}
-use Rattle.hx_config.specs.Numbers.{number_in, time_of}
+use Rattle.hx_config_parts.specs.Addresses.{server_address, bind_address, name_of}
+use Rattle.hx_config_parts.specs.Faults.{◌>>=◌}
+use Rattle.hx_config.specs.Keywords.{first_word}
+use Rattle.hx_config_parts.specs.Tables.{found, is_one_of}
+use Rattle.hx_config_parts.specs.Lexical.{no_words, word_at, at_end}
+use Rattle.hx_config_parts.specs.Numbers.{number_in, time_of}
 use Rattle.hx_config.specs.Options.{chosen_by}
 use Rattle.hx_config.specs.Places.{stands_in, timeout_words, treatment_of, option_lines}
 use Rattle.hx_config.specs.Sections.{usual_values, empty_section, first_values, closed, has_server_named, is_double, is_full, passing, with_values}

@@ -1,13 +1,12 @@
 //! The backend of each frontend, when all lines were read.
 ghost use Rattle.std.specs.Prelude.{◌≡◌, ◌≤◌, ◌==◌, ◌<◌, IfSome, length, map, Some, None, Ok, bytes_eq};
 ghost use Rattle.std.specs.List.{list_any};
-ghost use Rattle.hx_config.specs.Faults.{Leads};
+ghost use Rattle.hx_config_parts.specs.Faults.{Leads};
 ghost use Rattle.hx_config.specs.Meaning as meaning;
 
-use crate::fault::{Flaw, Rule, Stop};
-use crate::keywords::same;
 use crate::parts::{Back, Front};
 use crate::sections::{Backend, Frontend};
+use hx_config_parts::{Flaw, Rule, Stop, same};
 use std::alloc::Global;
 
 fn place_named(name: &[u8], backs: &[Backend]) -> Option<usize>

@@ -1,7 +1,10 @@
 //! The words that lines begin with, and the words that follow some of them.
 ghost use Rattle.std.specs.Prelude.{◌≡◌, bytes_eq};
-ghost use Rattle.hx_config.specs.Keywords.{found, section_words, setting_words};
+ghost use Rattle.hx_config.specs.Keywords.{section_words, setting_words};
+ghost use Rattle.hx_config_parts.specs.Tables.{found, is_one_of};
 ghost use Rattle.hx_config.specs.Keywords as tables;
+
+use hx_config_parts::same;
 
 /// The first word of a line.
 #[derive(Clone, Copy, PartialEq, Eq, Debug)]
@@ -27,12 +30,6 @@ pub enum FirstWord {
     PassedInGlobal,
     /// A line that is passed over in the other sections and does not stand in `global`.
     PassedInOthers,
-}
-
-pub fn same(word: &[u8], text: &[u8]) -> bool
-    ensures { result ≡ bytes_eq word.now text.now }
-{
-    word == text
 }
 
 fn section_word(word: &[u8]) -> Option<FirstWord>
@@ -83,7 +80,7 @@ fn setting_word(word: &[u8]) -> Option<FirstWord>
 
 // Whether the word begins a line that is passed over in `global` alone.
 fn is_global_word(word: &[u8]) -> bool
-    ensures { result ≡ tables.is_one_of tables.global_words word.now }
+    ensures { result ≡ is_one_of tables.global_words word.now }
 {
     same(word, b"chroot")
         || same(word, b"stats")

@@ -1,7 +1,7 @@
 //! What samples of texts mean, by computation alone.
 ghost use Rattle.std.specs.Prelude.{◌∷◌, ◌++◌, [], codes};
 ghost use Rattle.hx_config.specs.Samples.{HasFault, Means, usual_text, usual_meaning, backends};
-ghost use Rattle.hx_config.specs.declared.fault.Rule.TheVariants as rule;
+ghost use Rattle.hx_config_parts.specs.declared.fault.Rule.TheVariants as rule;
 
 /// What a usual file says, and one fault of each rule. It is a law: the call does nothing.
 pub fn samples()

@@ -1,17 +1,15 @@
 //! Sections begin and end.
 ghost use Rattle.std.specs.Prelude.{◌≡◌, ℕ, map, Ok, IfOk, IfErr, length, bytes_eq};
 ghost use Rattle.std.specs.List.{list_any};
-ghost use Rattle.hx_config.specs.declared.fault.Refusal.TheVariants.{Memory};
-ghost use Rattle.hx_config.specs.Faults.{Gives};
+ghost use Rattle.hx_config_parts.specs.declared.fault.Refusal.TheVariants.{Memory};
+ghost use Rattle.hx_config_parts.specs.Faults.{Gives};
 ghost use Rattle.hx_config.specs.Sections as section;
 
-use crate::fault::Refusal;
-use crate::growing::Growing;
-use crate::keywords::same;
 use crate::parts::{Back, Server};
 use crate::reading::Reading;
 use crate::sections::{Backend, Frontend, Kind, Section, Values};
 use hx_base::{Items, Millis, Mode, Name, PoolRules};
+use hx_config_parts::{Growing, Refusal, same};
 use std::alloc::Global;
 use std::mem;
 

@@ -1,14 +1,11 @@
 //! The options of `server` and `default-server` lines.
 ghost use Rattle.std.specs.Prelude.{◌≡◌};
-ghost use Rattle.hx_config.specs.Faults.{Gives};
-ghost use Rattle.hx_config.specs.Keywords.{found};
+ghost use Rattle.hx_config_parts.specs.Faults.{Gives};
+ghost use Rattle.hx_config_parts.specs.Tables.{found};
 ghost use Rattle.hx_config.specs.Options as said;
 
-use crate::fault::{Refusal, Rule};
-use crate::keywords::same;
-use crate::numbers::{is_number_word, number, time};
-use crate::words::Words;
 use hx_base::PoolRules;
+use hx_config_parts::{Refusal, Rule, Words, is_number_word, number, same, time};
 
 /// An option of a server.
 #[derive(Clone, Copy, PartialEq, Eq, Debug)]

@@ -1,11 +1,12 @@
 //! In which sections each line stands.
 ghost use Rattle.std.specs.Prelude.{◌≡◌, bytes_eq};
-ghost use Rattle.hx_config.specs.Keywords.{found, is_one_of};
+ghost use Rattle.hx_config_parts.specs.Tables.{found, is_one_of};
 ghost use Rattle.hx_config.specs.Places as table;
 ghost use Rattle.hx_config.specs.Sections as section;
 
-use crate::keywords::{FirstWord, TimeoutWord, Treatment, same};
+use crate::keywords::{FirstWord, TimeoutWord, Treatment};
 use crate::sections::Kind;
+use hx_config_parts::same;
 
 impl Kind {
     /// Whether the section listens.

@@ -1,18 +1,17 @@
 //! Reading a whole text.
 ghost use Rattle.std.specs.Prelude.{◌≡◌, ◌≤◌, [], length, IfOk, IfErr, Ok};
-ghost use Rattle.hx_config.specs.Faults.{Leads, IsFaultOf, stop_at};
-ghost use Rattle.hx_config.specs.Lexical.{lines_of};
+ghost use Rattle.hx_config_parts.specs.Faults.{Leads, IsFaultOf, stop_at};
+ghost use Rattle.hx_config_parts.specs.Lexical.{lines_of};
 ghost use Rattle.hx_config.specs.Meaning.{lines_read, finished, meaning_of};
 ghost use Rattle.hx_config.specs.Sections.{nothing_read, closed};
 ghost use Rattle.hx_config.specs.Sound.{IsSound};
 ghost use Rattle.hx_config.specs.Views.{meaning};
 
 use crate::config::Config;
-use crate::fault::{ConfigFault, Flaw, Refusal, Rule, Stop};
 use crate::finish::{backs_of, place_all, serve_all};
-use crate::lines::Lines;
 use crate::reading::Reading;
 use hx_base::Items;
+use hx_config_parts::{ConfigFault, Flaw, Lines, Refusal, Rule, Stop};
 use std::alloc::Global;
 
 /// The greatest length of a text.

@@ -1,7 +1,7 @@
 //! What was read so far.
 
-use crate::growing::Growing;
 use crate::sections::{Backend, Frontend, Section, Values};
+use hx_config_parts::Growing;
 
 /// The sections that have ended, and the one that is open.
 #[derive(Drop)]

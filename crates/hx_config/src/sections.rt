@@ -1,8 +1,8 @@
 //! Sections, as far as they were read.
 
-use crate::growing::Growing;
 use crate::parts::{Back, Server};
 use hx_base::{Address, Millis, Name, PoolRules};
+use hx_config_parts::Growing;
 
 /// The section in which a line stands.
 #[derive(Clone, Copy, PartialEq, Eq, Debug)]

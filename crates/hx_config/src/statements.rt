@@ -1,25 +1,24 @@
 //! What each line does.
 ghost use Rattle.std.specs.Prelude.{◌≡◌, Ok, [], bytes_eq};
 ghost use Rattle.std.specs.List.{list_any};
-ghost use Rattle.hx_config.specs.Faults.{Gives};
-ghost use Rattle.hx_config.specs.Keywords.{found};
-ghost use Rattle.hx_config.specs.Lexical.{words_of};
+ghost use Rattle.hx_config_parts.specs.Faults.{Gives};
+ghost use Rattle.hx_config_parts.specs.Tables.{found};
+ghost use Rattle.hx_config_parts.specs.Lexical.{words_of};
 ghost use Rattle.hx_config.specs.Sections as section;
 ghost use Rattle.hx_config.specs.Statements as means;
 ghost use Rattle.hx_config.specs.declared.keywords.Treatment.TheVariants.{Read};
 
-use crate::addresses::{address_to_bind, address_to_connect, name};
-use crate::fault::{Refusal, Rule};
-use crate::keywords::{FirstWord, TimeoutWord, Treatment, first_word, same};
-use crate::numbers::{number, time};
+use crate::keywords::{FirstWord, TimeoutWord, Treatment, first_word};
 use crate::opening::{copy_name, empty_section, first_values, usual_values};
 use crate::options::{Chosen, choose};
 use crate::parts::Server;
 use crate::places::{is_option_line, stands_in, timeout_word, treatment_of};
 use crate::reading::Reading;
 use crate::sections::{Kind, Section, Values};
-use crate::words::Words;
 use hx_base::{Items, Millis, Mode, ServerNo};
+use hx_config_parts::{
+    Refusal, Rule, Words, address_to_bind, address_to_connect, name, number, same, time,
+};
 use std::alloc::Global;
 
 fn unless(broken: bool, rule: Rule) -> Result<(), Refusal>
@@ -89,7 +88,8 @@ impl Reading {
     fn pass_over(&mut self, line: u32) -> Result<(), Refusal>
         ensures { Gives (λ _. self.new) result (Ok (section.passing line self.old)) }
     {
-        self.passed_over.push(line)
+        self.passed_over.push(line)?;
+        Ok(())
     }
 
     fn pass_over_if(&mut self, passed: bool, line: u32) -> Result<(), Refusal>

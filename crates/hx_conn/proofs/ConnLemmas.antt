@@ -152,10 +152,10 @@ there_more (Some a) from count n le = omega (arith, le)
 there_more None from count n le = tt
 
 -- a link of which more is told, and the same faults
-reads_bytes : (b : BusyNow) (n : ℕ) (more : List ℕ) (waited : Bool) (ended : Bool)
-    → let link = record b.link { taken_count = b.link.taken_count + n; taken = option_map (λ xs. xs ++ more) b.link.taken; read_waited = false } in
+reads_bytes : (b : BusyNow) (n asked : ℕ) (more : List ℕ)
+    → let link = record b.link { taken_count = b.link.taken_count + n; taken = option_map (λ xs. xs ++ more) b.link.taken; read_waited = false; read_length = asked } in
     IsCounted link → IsBusy b → IsBusy (record b { link = link })
-reads_bytes b n more waited ended counted is = record {
+reads_bytes b n asked more counted is = record {
   exchanges = more_exchanges b.link.sent b.link.taken more b.exchange.sent_from b.exchange.taken_from b.link.taken_count b.uses is.counted.taken is.taken is.exchanges;
   sent = is.sent;
   taken = omega (arith, is.taken);
@@ -175,9 +175,9 @@ reads_bytes b n more waited ended counted is = record {
 same_exchange : (e : Exchange) → record e { failed = e.failed || false } ≡ e
 same_exchange e = ap (λ (x : Bool). record e { failed = x }) (or_false e.failed)
 
-reads_wait : (b : BusyNow) (waits at : ℕ) → let link = record b.link { read_waits = waits; read_wait_at = at; read_waited = true } in
+reads_wait : (b : BusyNow) (waits at asked : ℕ) → let link = record b.link { read_waits = waits; read_wait_at = at; read_waited = true; read_length = asked } in
     IsCounted link → IsBusy b → IsBusy (record b { link = link })
-reads_wait b waits at counted is = record {
+reads_wait b waits at asked counted is = record {
   exchanges = is.exchanges;
   sent = is.sent;
   taken = is.taken;
@@ -193,8 +193,8 @@ reads_wait b waits at counted is = record {
   few = is.few;
 }
 
-reads_end : (b : BusyNow) → let link = record b.link { told_end = true } in IsCounted link → IsBusy b → IsBusy (record b { link = link })
-reads_end b counted is = record {
+reads_end : (b : BusyNow) (asked : ℕ) → let link = record b.link { told_end = true; read_length = asked } in IsCounted link → IsBusy b → IsBusy (record b { link = link })
+reads_end b asked counted is = record {
   exchanges = is.exchanges;
   sent = is.sent;
   taken = is.taken;
@@ -210,9 +210,9 @@ reads_end b counted is = record {
   few = is.few;
 }
 
-reads_fault : (b : BusyNow) (faults : ℕ) → CountsOne b.link.faults faults → let link = record b.link { faults = faults } in
+reads_fault : (b : BusyNow) (faults asked : ℕ) → CountsOne b.link.faults faults → let link = record b.link { faults = faults; read_length = asked } in
     IsCounted link → IsBusy b → IsBusy (record b { link = link; exchange = record b.exchange { failed = true } })
-reads_fault b faults counts counted is = record {
+reads_fault b faults asked counts counted is = record {
   exchanges = is.exchanges;
   sent = is.sent;
   taken = is.taken;
@@ -240,16 +240,16 @@ pub read_keeps : (b : BusyNow) (link : LinkState) (now : ℕ) (result : Got) (in
     → IsCounted link → IsBusy b → IsBusy (after_call b link (is_failed_got result))
 read_keeps b link now (got.Bytes n) into reads counted is =
     let P : LinkState → Type 0 = λ l. IsBusy (after_call b l false) in
-    subst P (sym reads) (unfailed b _ (reads_bytes b n (take n into) false false (subst IsCounted reads counted) is))
+    subst P (sym reads) (unfailed b _ (reads_bytes b n link.read_length (take n into) (subst IsCounted reads counted) is))
 read_keeps b link now got.NotYet into reads counted is =
     let P : LinkState → Type 0 = λ l. IsBusy (after_call b l false) in
-    subst P (sym reads.0) (unfailed b _ (reads_wait b link.read_waits now (subst IsCounted reads.0 counted) is))
+    subst P (sym reads.0) (unfailed b _ (reads_wait b link.read_waits now link.read_length (subst IsCounted reads.0 counted) is))
 read_keeps b link now got.End into reads counted is =
     let P : LinkState → Type 0 = λ l. IsBusy (after_call b l false) in
-    subst P (sym reads) (unfailed b _ (reads_end b (subst IsCounted reads counted) is))
+    subst P (sym reads) (unfailed b _ (reads_end b link.read_length (subst IsCounted reads counted) is))
 read_keeps b link now got.Failed into reads counted is =
     let P : LinkState → Type 0 = λ l. IsBusy (after_call b l true) in
-    subst P (sym reads.0) (failed b _ (reads_fault b link.faults reads.1 (subst IsCounted reads.0 counted) is))
+    subst P (sym reads.0) (failed b _ (reads_fault b link.faults link.read_length reads.1 (subst IsCounted reads.0 counted) is))
 
 -- a whole answer is an answer
 whole_is_answer : (m : MethodKind) (taken : Option (List ℕ)) (from n : ℕ) (Ended : Type 0)

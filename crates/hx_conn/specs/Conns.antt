@@ -12,6 +12,7 @@ use Rattle.hx_conn.specs.declared.exchange.Exchange.{Exchange}
 abbrev pub WhereTold : LinkState → (List ℕ → List ℕ → Type 0) → Type 0
 WhereTold l P = IfSome l.sent (λ sent. IfSome l.taken (λ taken. P sent taken))
 
+-- a connection at rest, as contracts see it
 pub record RestedNow : Type 0 where
   pub link : LinkState
   pub id : ConnId
@@ -31,6 +32,7 @@ pub record IsRested (r : RestedNow) : Type 0 where
   pub counted : IsCounted r.link
   pub few : r.uses ≤ 65535
 
+-- a connection with an exchange under way, as contracts see it
 pub record BusyNow : Type 0 where
   pub link : LinkState
   pub id : ConnId

@@ -13,7 +13,7 @@ use Rattle.hx_link.specs.Links.{LinkReads, LinkWrites}
 use Rattle.hx_link.specs.Courses.{attach_fails}
 use Rattle.hx_link.specs.Nets.{NetState, OnlyFaults, AttachCounted}
 use Rattle.hx_link.specs.Pipes.{PipeNow}
-use Rattle.hx_link.specs.Moves.{ReadsInto}
+use Rattle.hx_link.specs.Moves.{ReadsInto, WritesFrom}
 use Rattle.hx_conn.specs.declared.causes.Death.{Death}
 use Rattle.hx_conn.specs.declared.causes.Death.TheVariants.{AttachFault}
 use Rattle.hx_conn.specs.declared.causes.RestCause.{RestCause}
@@ -29,9 +29,9 @@ pub record Probes (r : RestedNow) (now : ℕ) (link : LinkState) (cause : Option
   pub reads : LinkReads r.link link now answer byte
   pub tells : cause ≡ death_of answer
 
--- it rests on, where the read had to wait
+-- it rests on, where the read had to wait and the link told no end before
 abbrev pub ProbesOk : RestedNow → ℕ → RestedNow → Type 0
-ProbesOk r now new = (new ≡ record r { link = new.link }) × Probes r now new.link None
+ProbesOk r now new = (new ≡ record r { link = new.link }) × Probes r now new.link None × (r.link.told_end ≡ false)
 
 -- it is dead, where the read answered anything else
 abbrev pub ProbesDead : RestedNow → ℕ → LinkState → ConnId → ℕ → Type 0
@@ -59,6 +59,7 @@ begun r method loop_no = record {
   exchange = new_exchange method r.link.sent_count r.link.taken_count;
 }
 
+-- an exchange begins, attached to the net's loop
 abbrev pub BeginsOk : RestedNow → MethodKind → NetState → NetState → BusyNow → Type 0
 BeginsOk r method net_old net_new b =
     (AttachCounted net_old net_new × IfSome net_old.course (λ c. attach_fails c.failing ≡ false))
@@ -76,6 +77,7 @@ is_failed_put (put.Bytes n) = false
 is_failed_put put.NotYet = false
 is_failed_put put.Failed = true
 
+-- the read failed
 abbrev pub is_failed_got : Got → Bool
 is_failed_got (got.Bytes n) = false
 is_failed_got got.NotYet = false
@@ -87,9 +89,15 @@ abbrev pub after_call : BusyNow → LinkState → Bool → BusyNow
 after_call b link failed =
     record b { link = link; exchange = record b.exchange { failed = b.exchange.failed || failed } }
 
+-- a write of these bytes of the request
 abbrev pub WritesAsk : BusyNow → BusyNow → ℕ → Put → List ℕ → Type 0
 WritesAsk old new now result bytes =
     (new ≡ after_call old new.link (is_failed_put result)) × LinkWrites old.link new.link now result bytes
+
+-- one write to the link; what it took is gone from the pipe's front
+pub record SendsAsk (old new : BusyNow) (now : ℕ) (before after : PipeNow) (result : Put) : Type 0 where
+  pub busy : new ≡ after_call old new.link (is_failed_put result)
+  pub write : WritesFrom old.link new.link now before after result
 
 -- one read of the link; what it gave stands at the pipe's end
 pub record ReadsAnswer (old new : BusyNow) (now : ℕ) (before after : PipeNow) (result : Got) : Type 0 where
@@ -121,6 +129,7 @@ refusal b = rest_cause b.exchange b.link.taken_count b.uses
 abbrev pub rested_of : BusyNow → RestedNow
 rested_of b = record { link = record b.link { on_loop = None }; id = b.id; server = b.server; uses = b.uses + 1 }
 
+-- no cause holds it back, and it rests with one use more
 abbrev pub RestsOk : BusyNow → NetState → NetState → RestedNow → Type 0
 RestsOk b net_old net_new r = OnlyFaults net_old net_new × (refusal b ≡ None) × (r ≡ rested_of b)
 

@@ -6,9 +6,11 @@ use Rattle.hx_link.specs.Told.{LinkState}
 use Rattle.hx_conn.specs.declared.exchange.Exchange.{Exchange}
 use Rattle.hx_conn.specs.Conns.{RestedNow, IsRested, BusyNow, IsBusy}
 
+-- the value of a resting connection
 abbrev pub rested_now : LinkState → ConnId → ServerNo → ℕ → RestedNow
 rested_now link id server uses = record { link = link; id = id; server = server; uses = uses }
 
+-- the value of a busy connection
 abbrev pub busy_now : LinkState → ConnId → ServerNo → ℕ → Exchange → BusyNow
 busy_now link id server uses exchange =
     record { link = link; id = id; server = server; uses = uses; exchange = exchange }
@@ -19,6 +21,7 @@ pub record KeepsRested (r : RestedNow) (s t : ℕ) : Type 0 where
   pub sent : s ≡ r.link.sent_count
   pub taken : t ≡ r.link.taken_count
 
+-- what a busy connection keeps beside its link
 pub record KeepsBusy (b : BusyNow) (s t : ℕ) : Type 0 where
   pub meaning : IsBusy b
   pub sent : s ≡ b.link.sent_count

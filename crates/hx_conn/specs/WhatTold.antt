@@ -12,6 +12,7 @@ told_of (Some sent) (Some taken) ended = Some (record { sent = sent; taken = tak
 told_of (Some sent) None ended = None
 told_of None taken ended = None
 
+-- what a pool keeps of a link
 abbrev pub what_of_link : LinkState → What
 what_of_link l = record { faults = l.faults; tag = l.tag; told = told_of l.sent l.taken l.told_end; plan = l.plan }
 

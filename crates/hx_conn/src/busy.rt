@@ -1,11 +1,11 @@
 //! A connection that carries an exchange.
 ghost use Rattle.std.specs.Prelude.{◌≡◌, ◌+◌, ◌<◌, ◌≤◌, ◌||◌, false, length, IfOk, IfErr};
 ghost use Rattle.hx_link.specs.Sources.{GotFits, PutFits, KeepsEnd};
-ghost use Rattle.hx_link.specs.Links.{ReadKeepsLimit};
+ghost use Rattle.hx_link.specs.Links.{ReadKeepsLimit, WriteKeepsLimit};
 ghost use Rattle.hx_link.specs.Nets.{NetDetaches};
 ghost use Rattle.hx_conn.specs.Conns.{IsRested, IsBusy, AskIsWhole};
 ghost use Rattle.hx_link.specs.Moves.{got_count, read_room};
-ghost use Rattle.hx_conn.specs.Steps.{is_failed_got, WritesAsk, ReadsAnswer, AnswerIsWhole};
+ghost use Rattle.hx_conn.specs.Steps.{is_failed_got, WritesAsk, SendsAsk, ReadsAnswer, AnswerIsWhole};
 ghost use Rattle.hx_conn.specs.Views.{busy_now, KeepsBusy};
 ghost use Rattle.hx_conn.specs.Steps.{new_exchange, ask_ended, answer_ended, RestsOk, RestsNot};
 
@@ -14,7 +14,7 @@ use crate::exchange::{AnswerEnd, Exchange};
 use crate::not_rested::NotRested;
 use crate::rested::Rested;
 use hx_base::{ConnId, Millis, ServerNo, Span};
-use hx_link::{Got, Link, Net, Pipe, Put, read_into};
+use hx_link::{Got, Link, Net, Pipe, Put, read_into, write_from};
 use hx_message::MethodKind;
 use std::marker::Model;
 
@@ -139,9 +139,31 @@ impl<L: Link> Busy<L> {
         requires some { 0 < length bytes.now }
         requires open { self.old.exchange.asked ≡ false }
         ensures fits { PutFits result (length bytes.now) }
+        ensures offers { self.new.link.write_length ≡ length bytes.now }
         ensures writes { WritesAsk self.old self.new now.0 result bytes.now }
+        ensures limit { WriteKeepsLimit self.old.link.sent_count result }
+        ensures meaning { IsBusy self.new }
     {
         let put = self.conn.link.write(now, bytes);
+        match put {
+            Put::Bytes(n) => self.conn.sent += n as u64,
+            Put::NotYet => {}
+            Put::Failed => self.exchange.failed = true,
+        }
+        put
+    }
+
+    /// Writes once all that the pipe holds, as bytes of the request, and drops what was taken of it.
+    pub fn send_ask(&mut self, now: Millis, from: &mut Pipe) -> Put
+        requires some { 0 < length from.old.bytes }
+        requires open { self.old.exchange.asked ≡ false }
+        ensures fits { PutFits result (length from.old.bytes) }
+        ensures offers { self.new.link.write_length ≡ length from.old.bytes }
+        ensures sends { SendsAsk self.old self.new now.0 from.old from.new result }
+        ensures limit { WriteKeepsLimit self.old.link.sent_count result }
+        ensures meaning { IsBusy self.new }
+    {
+        let put = write_from(&mut self.conn.link, now, from);
         match put {
             Put::Bytes(n) => self.conn.sent += n as u64,
             Put::NotYet => {}
@@ -162,9 +184,11 @@ impl<L: Link> Busy<L> {
     pub fn read_answer(&mut self, now: Millis, into: &mut Pipe) -> Got
         requires room { length into.old.bytes < into.old.capacity }
         ensures fits { GotFits result (read_room into.old) }
+        ensures asks { self.new.link.read_length ≡ read_room into.old }
         ensures reads { ReadsAnswer self.old self.new now.0 into.old into.new result }
         ensures ended { KeepsEnd self.old.link.told_end result }
         ensures limit { ReadKeepsLimit self.old.link.taken_count result }
+        ensures meaning { IsBusy self.new }
     {
         let got = read_into(&mut self.conn.link, now, into);
         self.conn.taken += count_of(got) as u64;

@@ -14,6 +14,3 @@ pub use dead::Dead;
 pub use hx_message::MethodKind;
 pub use not_rested::NotRested;
 pub use rested::Rested;
-
-#[cfg(test)]
-mod tests;

@@ -6,7 +6,7 @@ use Rattle.hx_base.specs.declared.numbers.Millis.{Millis}
 use Rattle.hx_message.specs.declared.BodyKind.{BodyKind}
 use Rattle.hx_message.specs.declared.BodyKind.TheVariants.{ToEnd}
 use Rattle.hx_message.specs.Message.{IsAnswer, IsAnswerWith}
-use Rattle.hx_head.specs.Limits.{IsShortAnswer}
+use Rattle.hx_message.specs.Limits.{IsShortAnswer}
 use Rattle.hx_frame.specs.declared.meter.Meter.{Meter}
 use Rattle.hx_frame.specs.declared.progress.MeterState.{MeterState}
 use Rattle.hx_frame.specs.declared.progress.MeterState.TheVariants.{Going}
@@ -25,7 +25,7 @@ use Rattle.hx_passage.specs.Replies.{AnswerCarries, AnswerStands, EndsTooEarly}
 use Rattle.hx_passage.specs.Answering.{manner, StopsAnswering, runs_to_end}
 use Rattle.hx_form.specs.Messages.{Messages}
 use Rattle.hx_form.specs.Shapes.{CarryMessages, end_after}
-use Rattle.hx_whole.proofs.InterimLemmas.{interims_of_short}
+use Rattle.hx_session_parts.proofs.OnWayLemmas.{begins_interims}
 use Rattle.hx_whole.proofs.AnswerLemmas.{answers_found, answers_have_heads, answers_end, answers_never_break, answers_keep_kind}
 use Rattle.hx_exchange.specs.Stops.{is_fault, is_failure}
 use Rattle.hx_exchange.specs.Carrying.{IsAtAnswer}
@@ -95,7 +95,7 @@ goes_on c s x start now ms closing h kind meter halt carry serves stands going n
     let every = all_given c s x start now ms taken stands.put halt carry serves stands.carries sound halts in
     let answer : x.answer ≡ taken = every ∙ ap (λ (xs : List ℕ). taken ++ xs) none ∙ append-nil taken in
     let is : IsAnswer x.method taken = subst (λ (xs : List ℕ). IsAnswer x.method xs) answer carry.messages.reply in
-    let begins = interims_of_short way.interims taken way.rest way.begins in
+    let begins = begins_interims way.interims taken way.rest way.begins in
     let part : IsProperPart kind way.body = subst (λ (t : MeterState). MeterFits kind way.body t) going way.used.fits in
     let g = gives s x start now ms taken stands.put serves stands.carries in
     by_kind (runs_to_end kind) refl
@@ -131,7 +131,7 @@ answers_on c s x start now (stop.Server halt) mc ms carry serves keeps is (halts
     let every = all_given c s x start now ms interims.taken interims.put halt carry serves interims.carries sound halts in
     let way = interims.way in
     answers_have_heads x.method interims.taken now.from way.0 (subst (λ (xs : List ℕ). IsAnswer x.method xs) every carry.messages.reply)
-    (interims_of_short way.0 interims.taken [] way.1) looks.1
+    (begins_interims way.0 interims.taken [] way.1) looks.1
 answers_on c s x start now (stop.Server halt) mc ms carry serves keeps is (halts, inr b) sound =
     goes_on c s x start now ms b.closing b.head b.kind b.meter halt carry serves b.stands b.going b.empty b.early sound halts
 answers_on c s x start now (stop.Client halt) mc ms carry serves keeps is halts sound =
@@ -140,7 +140,7 @@ answers_on c s x start now stop.Broken mc ms carry serves keeps is (inl (interim
     let front = some_given c s x start now ms interims.taken interims.put carry serves interims.carries in
     let way = interims.way in
     answers_found x.method interims.taken now.from front.0 way.0 (subst (λ (xs : List ℕ). IsAnswer x.method xs) front.1 carry.messages.reply)
-    (subst IsShortAnswer front.1 carry.messages.short_reply) (interims_of_short way.0 interims.taken [] way.1) breaks
+    (subst IsShortAnswer front.1 carry.messages.short_reply) (begins_interims way.0 interims.taken [] way.1) breaks
 answers_on c s x start now stop.Broken mc ms carry serves keeps is (inr b) sound =
     let stands = b.stands in
     let way = stands.way in
@@ -149,7 +149,7 @@ answers_on c s x start now stop.Broken mc ms carry serves keeps is (inr b) sound
     let front = some_given c s x start now ms taken stands.put carry serves stands.carries in
     let answer : x.answer ≡ taken ++ next ∷ (later ++ front.0) = front.1 ∙ ap (λ (xs : List ℕ). taken ++ (xs ++ front.0)) at in
     answers_never_break x.method taken (later ++ front.0) way.rest way.body next way.interims b.head b.kind
-    (subst (λ (xs : List ℕ). IsAnswer x.method xs) answer carry.messages.reply) (interims_of_short way.interims taken way.rest way.begins)
+    (subst (λ (xs : List ℕ). IsAnswer x.method xs) answer carry.messages.reply) (begins_interims way.interims taken way.rest way.begins)
     way.reads way.final way.framed none
 answers_on c s x start now (stop.Refused fault) mc ms carry serves keeps is halts sound = halts
 answers_on c s x start now stop.BadRequest mc ms carry serves keeps is halts sound = halts

@@ -18,7 +18,7 @@ use Rattle.hx_passage.specs.declared.answer.Finish.TheVariants as finish
 use Rattle.hx_passage.specs.Requests.{Standing, standing, AskHasPassed}
 use Rattle.hx_passage.specs.Replies.{EndsBy}
 use Rattle.hx_passage.specs.Answering.{IsPassed, runs_to_end}
-use Rattle.hx_passage.proofs.WholeLemmas.{goes_out_whole}
+use Rattle.hx_message.proofs.WholeLemmas.{goes_out_whole}
 use Rattle.hx_exchange.specs.Carrying.{can_last, IsBegun, IsAtAnswer}
 use Rattle.hx_exchange.proofs.Links.{taken_since, sent_since}
 use Rattle.hx_exchange.proofs.Runs.{to_end_is, and_is}

@@ -3,7 +3,7 @@ use Rattle.std.proofs.Common.{◌≡◌, ℕ, false, List, ◌++◌, sym, subst,
 use Rattle.hx_base.specs.declared.plan.Plan.{Plan}
 use Rattle.hx_link.specs.MemoryLinks.{MemoryLinkNow}
 use Rattle.hx_message.specs.Message.{IsRequest}
-use Rattle.hx_head.specs.Limits.{IsShortRequest}
+use Rattle.hx_message.specs.Limits.{IsShortRequest}
 use Rattle.hx_passage.specs.declared.halt.Stop.{Stop}
 use Rattle.hx_passage.specs.declared.halt.Stop.TheVariants as stop
 use Rattle.hx_passage.specs.Finds.{StopsAsk}

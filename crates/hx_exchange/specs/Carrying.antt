@@ -3,7 +3,7 @@ use Rattle.std.specs.Prelude.{◌≡◌, ◌⊎◌, ℕ, ◌+◌, ◌≤◌, Boo
 use Rattle.httparse.specs.Grammar.{RequestHead}
 use Rattle.hx_message.specs.declared.MethodKind.{MethodKind}
 use Rattle.hx_message.specs.declared.BodyKind.{BodyKind}
-use Rattle.hx_head.specs.Heads.{head_limit}
+use Rattle.hx_message.specs.Limits.{head_limit}
 use Rattle.hx_conn.specs.Conns.{BusyNow}
 use Rattle.hx_conn.specs.Steps.{ask_ended, answer_ended}
 use Rattle.hx_session_parts.specs.Asks.{most_text}

@@ -6,7 +6,7 @@ use Rattle.hx_message.specs.declared.BodyKind.TheVariants.{ToEnd}
 use Rattle.hx_message.specs.Body.{persists}
 use Rattle.hx_message.specs.Forwarded.{ForwardsRequest, ForwardsAnswer}
 use Rattle.hx_message.specs.Message.{IsRequest, IsAnswerWith, WantsClose}
-use Rattle.hx_head.specs.Limits.{IsShortRequest, IsShortAnswer}
+use Rattle.hx_message.specs.Limits.{IsShortRequest, IsShortAnswer}
 use Rattle.hx_link.specs.MemoryLinks.{new_state}
 use Rattle.hx_base.specs.declared.plan.Plan.{Plan}
 use Rattle.hx_conn.specs.Conns.{RestedNow, BusyNow}

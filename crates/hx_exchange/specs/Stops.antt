@@ -5,11 +5,13 @@ use Rattle.hx_passage.specs.declared.halt.Halt.TheVariants.{Waits, Ended, Failed
 use Rattle.hx_passage.specs.declared.halt.Stop.{Stop}
 use Rattle.hx_passage.specs.declared.halt.Stop.TheVariants as stop
 
+-- the link failed
 abbrev pub is_fault : Halt → Bool
 is_fault Waits = false
 is_fault Ended = false
 is_fault Failed = true
 
+-- the stop is one at which a link failed
 abbrev pub is_failure : Stop → Bool
 is_failure (stop.Client halt) = is_fault halt
 is_failure (stop.Server halt) = is_fault halt

@@ -9,6 +9,7 @@ use Rattle.hx_exchange.specs.declared.ways.Session.{Session}
 abbrev pub from_client : ℕ
 from_client = 16384
 
+-- how many bytes each other pipe holds
 abbrev pub other_pipes : ℕ
 other_pipes = 18432
 
@@ -17,6 +18,7 @@ pub record IsNewWay (capacity : ℕ) (w : Way) : Type 0 where
   pub from : w.from ≡ pipe [] capacity
   pub to : w.to ≡ pipe [] other_pipes
 
+-- the client's link, and empty pipes in both directions
 pub record BeginsSession (client : MemoryLinkNow) (s : Session) : Type 0 where
   pub client_is : s.client ≡ client
   pub there : IsNewWay from_client s.there

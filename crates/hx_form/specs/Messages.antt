@@ -3,7 +3,7 @@ use Rattle.std.specs.Prelude.{◌≡◌, ◌⊎◌, ◌↔◌, ℕ, Bool, true, 
 use Rattle.hx_message.specs.declared.MethodKind.{MethodKind}
 use Rattle.hx_message.specs.Forwarded.{ForwardsRequest, ForwardsAnswer}
 use Rattle.hx_message.specs.Message.{IsRequest, IsAnswer, WantsClose, RunsToEnd, Persists}
-use Rattle.hx_head.specs.Limits.{IsShortRequest, IsShortAnswer}
+use Rattle.hx_message.specs.Limits.{IsShortRequest, IsShortAnswer}
 
 -- the messages of one exchange, on both links
 pub record Messages : Type 0 where

@@ -8,6 +8,3 @@ mod shape;
 pub use form::{Case, Form, read_form};
 pub use route::Route;
 pub use shape::{Shape, one_shape, shape_of};
-
-#[cfg(test)]
-mod tests;

@@ -113,13 +113,14 @@ pub one_request_end : (bytes : List ℕ) (j k : ℕ) → HasWholeRequest bytes j
 one_request_end bytes j k x y =
     ⊎_elim (λ lt. requests_end bytes j k (omega (arith, lt)) x y) (λ le. sym (requests_end bytes k j le y x)) (cases_lt j k)
 
-interims_more : (gs : List ResponseHead) (bytes rest more : List ℕ) → BeginsInterims bytes gs rest → BeginsInterims (bytes ++ more) gs (rest ++ more)
+-- interim heads with more bytes behind them
+pub interims_more : (gs : List ResponseHead) (bytes rest more : List ℕ) → BeginsInterims bytes gs rest → BeginsInterims (bytes ++ more) gs (rest ++ more)
 interims_more [] bytes rest more is = ap (λ (xs : List ℕ). xs ++ more) is
 interims_more (g ∷ gs) bytes rest more (middle, p, i, later) =
     (middle ++ more, ReadsResponse-append bytes g middle more p, i, interims_more gs middle rest more later)
 
 -- an answer has one final head, and its body begins at one place
-one_final_body : (gs hs : List ResponseHead) (b rest rest' body body' : List ℕ) (g h : ResponseHead)
+pub one_final_body : (gs hs : List ResponseHead) (b rest rest' body body' : List ℕ) (g h : ResponseHead)
     → BeginsInterims b gs rest → ReadsResponse rest g body → IsFinal g → BeginsInterims b hs rest' → ReadsResponse rest' h body' → IsFinal h
     → (g ≡ h) × (body ≡ body')
 one_final_body [] [] b rest rest' body body' g h x p f y p' f' =

@@ -1,5 +1,4 @@
 pub mod FramingLemmas
-pub mod CloseLemmas
 pub mod KindLemmas
 pub mod LineLemmas
 pub mod SmallLemmas

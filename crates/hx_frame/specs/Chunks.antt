@@ -11,9 +11,11 @@ use Rattle.hx_frame.specs.declared.state.ChunkState.TheVariants.{Start, Size, Ex
 abbrev pub expect : ℕ → ℕ → ChunkState → ChunkState
 expect b wanted next = if b == wanted then next else Bad
 
+-- a size line begins with a digit
 abbrev pub first_digit : ℕ → ChunkState
 first_digit b = if is_ascii_hexdigit b then Size (digit_value b) 15 else Bad
 
+-- an extension begins with a semicolon or white space
 abbrev pub is_extension_front : ℕ → Bool
 is_extension_front b = b == semicolon || b == space || b == tab
 
@@ -23,12 +25,14 @@ after_digits size room b =
     if b == carriage_return then SizeEnd size
     else if is_extension_front b then Extension size (4077 + room) else Bad
 
+-- among the digits of a size, with room for so many more
 abbrev pub in_size : ℕ → ℕ → ℕ → ChunkState
 in_size size room b =
     if is_ascii_hexdigit b
     then if room == 0 then Bad else Size (size * 16 + digit_value b) (room - 1)
     else after_digits size room b
 
+-- in the extension behind a size, with room for so many more bytes
 abbrev pub in_extension : ℕ → ℕ → ℕ → ChunkState
 in_extension size room b =
     if b == carriage_return then SizeEnd size
@@ -38,14 +42,17 @@ in_extension size room b =
 abbrev pub after_line : ℕ → ChunkState
 after_line size = if size == 0 then TrailerStart 16382 else Data size
 
+-- in data of which so many bytes are left, and then behind it
 abbrev pub in_data : ℕ → ℕ → ChunkState
 in_data left b = if nat_lt 0 left then Data (left - 1) else expect b carriage_return DataEnd
 
+-- at the front of a trailer line or of the empty line
 abbrev pub at_trailer : ℕ → ℕ → ChunkState
 at_trailer room b =
     if b == carriage_return then LastEnd
     else if message.is_trailer_byte b && nat_le 3 room then Trailer (room - 3) else Bad
 
+-- in a trailer line, with room for so many more bytes
 abbrev pub in_trailer : ℕ → ℕ → ChunkState
 in_trailer room b =
     if b == carriage_return then TrailerEnd room
@@ -81,7 +88,7 @@ is_small LastEnd = true
 is_small Done = true
 is_small Bad = true
 
--- the body ended, or none can follow
+-- the body ended, or no body can follow
 abbrev pub is_over : ChunkState → Bool
 is_over Start = false
 is_over (Size size room) = false
@@ -96,6 +103,7 @@ is_over LastEnd = false
 is_over Done = true
 is_over Bad = true
 
+-- no body can follow
 abbrev pub is_bad : ChunkState → Bool
 is_bad Start = false
 is_bad (Size size room) = false

@@ -1,5 +1,4 @@
 pub mod Framing
-pub mod Options
 pub mod Chunks
 pub mod Endings
 pub mod States

@@ -47,7 +47,8 @@ pub record LeadsOn (old : BodyState) (piece : List ℕ) (n : ℕ) (new : BodySta
   pub within : n ≤ length piece
   pub ended : (progress_of old ≡ progress.Going → ⊥) → (n ≡ 0) × (new ≡ old)
   pub whole : progress_of new ≡ progress.Going → n ≡ length piece
-  pub ends : (progress_of new ≡ progress.Bad → ⊥) → (more : List ℕ) → EndsBody old (take n piece ++ more) ↔ EndsBody new more
+  pub ends : (progress_of new ≡ progress.Bad → ⊥)
+      → (more : List ℕ) → EndsBody old (take n piece ++ more) ↔ EndsBody new more
   pub bad : progress_of old ≡ progress.Going → progress_of new ≡ progress.Bad
       → (n < length piece) × ((more : List ℕ) × (0 < length more) × EndsBody old (take n piece ++ more))
       × ((more : List ℕ) → EndsBody old (take (n + 1) piece ++ more) → ⊥)

@@ -7,9 +7,9 @@ ghost use Rattle.hx_message.specs.Body.{kind_of_fields, request_kind, answer_kin
 ghost use Rattle.hx_head.specs.Heads.{IsRequestAt, IsAnswerAt, IsRequestOf, IsAnswerOf};
 ghost use Rattle.hx_frame.specs.Framing.{IsFound, AreFound};
 
-use crate::fields::{Found, FramingFields, framing_fields, is_same_name, part};
+use crate::fields::{Found, FramingFields, framing_fields};
 use crate::length::length_kind;
-use hx_head::{AnswerHead, RequestHead};
+use hx_head::{AnswerHead, RequestHead, is_same_name, part};
 use hx_message::{BodyKind, FrameFault, MethodKind};
 
 /// The kind by the Content-Length fields.

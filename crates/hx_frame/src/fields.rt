@@ -1,13 +1,11 @@
 //! The fields on which the framing rests.
 ghost use Rattle.std.specs.Prelude.{◌≡◌, ◌∷◌, ◌++◌, [], ℕ, List, length, map, All};
-ghost use Rattle.std.specs.Str.{str_eq_ignore_ascii_case};
-ghost use Rattle.hx_base.specs.Spans.{bytes_in};
 ghost use Rattle.hx_message.specs.Fields.{values_of};
-ghost use Rattle.hx_head.specs.Heads.{IsIn, IsFieldIn, field_in};
+ghost use Rattle.hx_head.specs.Heads.{IsFieldIn, field_in};
 ghost use Rattle.hx_frame.specs.Framing.{IsFound, AddsFound, AreFound};
 
 use hx_base::Span;
-use hx_head::FieldSpan;
+use hx_head::{FieldSpan, is_same_name, part};
 
 /// The fields of one name.
 #[derive(Clone, Copy)]
@@ -24,20 +22,6 @@ pub(crate) struct FramingFields {
     pub coding: Found,
     pub length: Found,
     pub host: Found,
-}
-
-/// The bytes of a range.
-pub(crate) fn part(bytes: &[u8], span: Span) -> &[u8]
-    requires { IsIn (length bytes.now) span }
-    ensures { result.now ≡ bytes_in bytes.now span }
-{
-    &bytes[span.from as usize..span.to as usize]
-}
-
-pub(crate) fn is_same_name(name: &[u8], other: &[u8]) -> bool
-    ensures { result ≡ str_eq_ignore_ascii_case name.now other.now }
-{
-    name.eq_ignore_ascii_case(other)
 }
 
 fn one_more(found: Found, value: Span) -> Found

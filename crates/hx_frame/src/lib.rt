@@ -4,7 +4,6 @@
 mod body;
 mod chunk;
 mod close;
-mod connection;
 mod ends;
 mod fields;
 mod length;
@@ -15,11 +14,7 @@ mod state;
 
 pub use body::{body_of_answer, body_of_request};
 pub use close::{persists, wants_close};
-pub use connection::has_connection_field;
 pub use ends::one_end;
 pub use hx_message::{BodyKind, FrameFault, MethodKind};
 pub use meter::Meter;
 pub use progress::{Fed, MeterState};
-
-#[cfg(test)]
-mod tests;

@@ -30,10 +30,18 @@ impl Meter {
         }
     }
 
+    /// How far the body has come: what a feed of nothing would tell.
+    pub fn state(&self) -> MeterState
+        ensures { result ≡ state_of self.now }
+    {
+        progress(self.state)
+    }
+
     /// Reads on in the body, up to its end or to the first byte after which no body follows. After Done and Bad it
     /// uses nothing.
     pub fn feed(&mut self, piece: &[u8]) -> Fed
         ensures state { result.state ≡ state_of self.new }
+        ensures nothing { piece.now ≡ [] → result.state ≡ state_of self.old }
         ensures within { result.used ≤ length piece.now }
         ensures used { (kind : BodyKind) (before : List ℕ) → HasUsed kind before self.old
             → HasUsed kind (before ++ take result.used piece.now) self.new }

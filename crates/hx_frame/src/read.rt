@@ -1,5 +1,5 @@
 //! Reading of a body, piece by piece.
-ghost use Rattle.std.specs.Prelude.{◌≡◌, ◌<◌, ◌≤◌, ◌⊎◌, IsTrue, true, false, length, drop, min};
+ghost use Rattle.std.specs.Prelude.{◌≡◌, ◌<◌, ◌≤◌, ◌⊎◌, IsTrue, true, false, [], length, drop, min};
 ghost use Rattle.hx_frame.specs.Chunks as machine;
 ghost use Rattle.hx_frame.specs.States.{state_at_front, progress_of, has_small_size, LeadsOn};
 
@@ -117,6 +117,7 @@ pub(crate) fn read_body(state: BodyState, piece: &[u8]) -> BodyRead
     requires { IsTrue (has_small_size state) }
     ensures small { IsTrue (has_small_size result.state) }
     ensures leads { LeadsOn state piece.now result.used result.state }
+    ensures nothing { piece.now ≡ [] → result.state ≡ state }
 {
     match state {
         BodyState::Bytes(left) => {

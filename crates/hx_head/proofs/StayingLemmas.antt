@@ -13,8 +13,12 @@ use Rattle.hx_head.specs.declared.head.FieldSpan.{FieldSpan}
 use Rattle.hx_head.specs.Heads.{field_in}
 use Rattle.hx_head.specs.Staying.{lists_name, key_of}
 
+pub or_false : (b : Bool) → (b || false) ≡ b
+or_false true = refl
+or_false false = refl
+
 -- the first part ends at the first comma
-parts_at : (xs : List ℕ) (i : ℕ) → i < length xs → get_or xs i 0 ≡ 44 → ((k : ℕ) → k < i → get_or xs k 0 ≢ 44)
+pub parts_at : (xs : List ℕ) (i : ℕ) → i < length xs → get_or xs i 0 ≡ 44 → ((k : ℕ) → k < i → get_or xs k 0 ≢ 44)
     → parts_of xs ≡ take i xs ∷ parts_of (drop (suc i) xs)
 parts_at [] i inside comma before = absurd (omega arith)
 parts_at (b ∷ bs) zero inside comma before =
@@ -24,7 +28,7 @@ parts_at (b ∷ bs) (suc i) inside comma before =
     ∙ ap (with_first b) (parts_at bs i (omega arith) comma (λ k below. before (suc k) (omega arith)))
 
 -- without a comma there is one part
-parts_whole : (xs : List ℕ) → ((k : ℕ) → k < length xs → get_or xs k 0 ≢ 44) → parts_of xs ≡ xs ∷ []
+pub parts_whole : (xs : List ℕ) → ((k : ℕ) → k < length xs → get_or xs k 0 ≢ 44) → parts_of xs ≡ xs ∷ []
 parts_whole [] none = refl
 parts_whole (b ∷ bs) none =
     ap (λ t. cond t ([] ∷ parts_of bs) (with_first b (parts_of bs))) (ne_eqb b 44 (none 0 (omega arith)))
@@ -40,10 +44,6 @@ pub lists_whole : (xs name : List ℕ) → ((k : ℕ) → k < length xs → get_
 lists_whole xs name none =
     ap (λ (parts : List (List ℕ)). list_any (λ part. str_eq_ignore_ascii_case part name) (map trim_ows parts)) (parts_whole xs none)
     ∙ or_false (str_eq_ignore_ascii_case (trim_ows xs) name)
-  where
-    or_false : (b : Bool) → (b || false) ≡ b
-    or_false true = refl
-    or_false false = refl
 
 -- the options of the first field, and then those of the others
 pub optional_cons : (f : NameAndValue) (fields : List NameAndValue) (name : List ℕ)
@@ -89,10 +89,6 @@ optional_other bytes fields name i none inside named_is =
     optional_at bytes fields name i none false (lists_name (field_in bytes (get_or fields i none)).1 name) inside named_is refl
 
 -- ---- marks
-
-or_false : (b : Bool) → (b || false) ≡ b
-or_false true = refl
-or_false false = refl
 
 or_assoc : (a b c : Bool) → ((a || b) || c) ≡ (a || (b || c))
 or_assoc true b c = refl

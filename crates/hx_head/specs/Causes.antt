@@ -9,7 +9,7 @@ use Rattle.hx_head.specs.declared.head.HeadRead.{HeadRead}
 use Rattle.hx_head.specs.declared.head.HeadRead.TheVariants.{Whole, More, Refused}
 use Rattle.hx_head.specs.declared.refusal.Refusal.{Refusal}
 use Rattle.hx_head.specs.declared.refusal.Refusal.TheVariants.{NotAHead, TooLong, TooManyFields, Version, Status}
-use Rattle.hx_head.specs.Heads.{head_limit, field_limit}
+use Rattle.hx_message.specs.Limits.{head_limit, field_limit}
 use Rattle.hx_head.specs.Reads.{front}
 
 -- the number of a refusal
@@ -35,7 +35,8 @@ HasLowAnswer bytes =
 -- why a request head is refused
 abbrev pub RefusesRequest : Refusal → List ℕ → Type 0
 RefusesRequest NotAHead bytes = NeverHasRequest (front bytes)
-RefusesRequest TooLong bytes = (head_limit ≤ length bytes) × HasNoRequest (front bytes)
+RefusesRequest TooLong bytes =
+    (head_limit ≤ length bytes) × HasNoRequest (front bytes) × MayBecomeRequest (front bytes)
 RefusesRequest TooManyFields bytes =
     RequestOverflows field_limit (front bytes) × RequestExceeds field_limit (front bytes)
 RefusesRequest Version bytes = HasOldRequest (front bytes)
@@ -55,7 +56,8 @@ RefusesOld bytes result = HasOldRequest (front bytes) → result ≡ Refused (co
 -- why an answer head is refused
 abbrev pub RefusesAnswer : Refusal → List ℕ → Type 0
 RefusesAnswer NotAHead bytes = NeverHasResponse (front bytes)
-RefusesAnswer TooLong bytes = (head_limit ≤ length bytes) × HasNoResponse (front bytes)
+RefusesAnswer TooLong bytes =
+    (head_limit ≤ length bytes) × HasNoResponse (front bytes) × MayBecomeResponse (front bytes)
 RefusesAnswer TooManyFields bytes =
     ResponseOverflows field_limit (front bytes) × ResponseExceeds field_limit (front bytes)
 RefusesAnswer Version bytes = ⊥

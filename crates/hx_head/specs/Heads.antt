@@ -11,19 +11,13 @@ use Rattle.hx_head.specs.declared.head.RequestHead.{RequestHead}
 use Rattle.hx_head.specs.declared.head.AnswerHead.{AnswerHead}
 use Rattle.hx_message.specs.Body.{kind_of_method}
 use Rattle.hx_message.specs.Fields.{NameAndValue, read_fields}
+use Rattle.hx_message.specs.Limits.{field_limit}
 
--- the most bytes of a head
-abbrev pub head_limit : ℕ
-head_limit = 16384
-
--- the most fields of a head
-abbrev pub field_limit : ℕ
-field_limit = 100
-
--- a range of the crate httparse, and the ranges of a field
+-- a range of the crate httparse
 abbrev pub span_of : httparse.Span → Span
 span_of s = record { from = s.start; to = s.end }
 
+-- the ranges of a field
 abbrev pub field_of : HeaderSpan → FieldSpan
 field_of h = record { name = span_of h.name; value = span_of h.value }
 
@@ -31,6 +25,7 @@ field_of h = record { name = span_of h.name; value = span_of h.value }
 abbrev pub IsIn : ℕ → Span → Type 0
 IsIn n s = (s.from ≤ s.to) × (s.to ≤ n)
 
+-- the name and the value of the field lie in the first n bytes
 abbrev pub IsFieldIn : ℕ → FieldSpan → Type 0
 IsFieldIn n f = IsIn n f.name × IsIn n f.value
 

@@ -1,7 +1,6 @@
-pub mod Again
 pub mod Heads
 pub mod Reads
 pub mod Causes
+pub mod Options
 pub mod Staying
 pub mod Writes
-pub mod Limits

@@ -10,7 +10,8 @@ use Rattle.hx_head.specs.declared.head.RequestHead.{RequestHead}
 use Rattle.hx_head.specs.declared.head.AnswerHead.{AnswerHead}
 use Rattle.hx_head.specs.declared.head.HeadRead.{HeadRead}
 use Rattle.hx_head.specs.declared.head.HeadRead.TheVariants.{Whole, More, Refused}
-use Rattle.hx_head.specs.Heads.{head_limit, field_limit, IsRequestAt, IsAnswerAt}
+use Rattle.hx_head.specs.Heads.{IsRequestAt, IsAnswerAt}
+use Rattle.hx_message.specs.Limits.{head_limit, field_limit}
 
 -- the bytes among which a head is looked for
 abbrev pub front : List ℕ → List ℕ
@@ -42,11 +43,12 @@ FindsAnswer bytes result =
     → 100 ≤ status_code g → length g.fields ≤ field_limit
     → IsWholeAnd result (λ h. IsAnswerAt bytes h g)
 
--- whatever head the parser's answer names, h names it too
+-- whatever request head the parser's answer names, h names it too
 abbrev pub IsSameRequest : List ℕ → List HeaderSpan → RequestSpans → RequestHead → Type 0
 IsSameRequest bytes headers r h =
     (g : grammar.RequestHead) → spans.IsRequestAt (front bytes) headers r g → IsRequestAt bytes h g
 
+-- the same for an answer head
 abbrev pub IsSameAnswer : List ℕ → List HeaderSpan → ResponseSpans → AnswerHead → Type 0
 IsSameAnswer bytes headers r h =
     (g : grammar.ResponseHead) → spans.IsResponseAt (front bytes) headers r g → IsAnswerAt bytes h g

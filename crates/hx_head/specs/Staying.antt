@@ -26,9 +26,11 @@ stays_in bytes fields f = goes_on (map (field_in bytes) fields) (field_in bytes 
 abbrev pub add_byte : ℕ → ℕ → ℕ
 add_byte key b = (key * 0x9E37_79B9_7F4A_7C15 % 2 ^ 64 + to_ascii_lowercase b) % 2 ^ 64
 
+-- the number of a name
 unfoldable pub key_of : List ℕ → ℕ
 key_of name = fold add_byte 0 name
 
+-- what stands where a list has no field
 abbrev pub no_field : FieldSpan
 no_field = record { name = record { from = 0; to = 0 }; value = record { from = 0; to = 0 } }
 

@@ -16,11 +16,12 @@ abbrev pub Puts : List ℕ → List ℕ → List ℕ → Result ℕ NoRoom → T
 Puts text old new (Ok n) = (n ≡ length text) × (length text ≤ length old) × (new ≡ text ++ drop n old)
 Puts text old new (Err e) = (e.needed ≡ length text) × (length old < length text) × (new ≡ old)
 
--- the text that goes out for the head
+-- the text that goes out for the request head
 abbrev pub WritesRequest : List ℕ → RequestHead → List ℕ → List ℕ → Result ℕ NoRoom → Type 0
 WritesRequest bytes h old new result =
     (g : grammar.RequestHead) → IsRequestAt bytes h g → Puts (forwarded_request g) old new result
 
+-- the text that goes out for the answer head, whether or not it tells of the end
 abbrev pub WritesAnswer : List ℕ → AnswerHead → Bool → List ℕ → List ℕ → Result ℕ NoRoom → Type 0
 WritesAnswer bytes h closing old new result =
     (g : grammar.ResponseHead) → IsAnswerAt bytes h g → Puts (forwarded_answer g closing) old new result
@@ -42,22 +43,24 @@ AddsPiece piece old at new next =
 abbrev pub lines_of : List ℕ → List FieldSpan → List ℕ
 lines_of bytes fields = flat_map (λ f. field_line (field_in bytes f)) fields
 
--- the ranges of the start line lie in the bytes, which are few
+-- the ranges of a request line lie in the bytes, which are few
 pub record RequestIn (bytes : List ℕ) (h : RequestHead) : Type 0 where
   pub small : length bytes < 2 ^ 32
   pub word : IsIn (length bytes) h.word
   pub target : IsIn (length bytes) h.target
 
+-- the range of a status line lies in the bytes, which are few
 pub record AnswerIn (bytes : List ℕ) (h : AnswerHead) : Type 0 where
   pub small : length bytes < 2 ^ 32
   pub reason : IsIn (length bytes) h.reason
 
--- the text by the ranges of the head, with these fields
+-- the text by the ranges of a request head, with these fields
 unfoldable pub request_text : List ℕ → RequestHead → List FieldSpan → List ℕ
 request_text bytes h fields =
     bytes_in bytes h.word ++ space ∷ bytes_in bytes h.target ++ codes " HTTP/1.1\r\n"
     ++ lines_of bytes fields ++ crlf_bytes
 
+-- the text by the ranges of an answer head, with these fields
 unfoldable pub answer_text : List ℕ → AnswerHead → List FieldSpan → Bool → List ℕ
 answer_text bytes h fields closing =
     codes "HTTP/1.1 " ++ decimal h.status ++ space ∷ bytes_in bytes h.reason ++ crlf_bytes

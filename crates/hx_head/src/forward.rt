@@ -1,7 +1,8 @@
 //! Heads as they go out (RFC 9110, section 7.6.1; RFC 9112, sections 2.3, 3 and 4).
 ghost use Rattle.std.specs.Prelude.{◌≡◌, ◌≤◌, length, All};
 ghost use Rattle.hx_message.specs.Forwarded.{closing_line};
-ghost use Rattle.hx_head.specs.Heads.{field_limit, IsFieldIn, IsRequestOf, IsAnswerOf};
+ghost use Rattle.hx_head.specs.Heads.{IsFieldIn, IsRequestOf, IsAnswerOf};
+ghost use Rattle.hx_message.specs.Limits.{field_limit};
 ghost use Rattle.hx_head.specs.Writes.{Puts, WritesRequest, WritesAnswer, RequestIn, AnswerIn, request_text, answer_text};
 
 use crate::copy::part;

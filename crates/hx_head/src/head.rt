@@ -57,7 +57,7 @@ pub enum HeadRead<H> {
     Whole(H),
     /// No whole head is there yet, and there is room for more bytes.
     More,
-    /// 1: no head can follow. 2: the first 16,384 bytes hold no whole head. 3: there are more than 100 fields.
-    /// 4: a request of HTTP/1.0. 5: an answer with a status below 100.
+    /// 1: no bytes can follow that make a head. 2: the first 16,384 bytes hold no whole head, and could still become
+    /// one. 3: there are more than 100 fields. 4: a request of HTTP/1.0. 5: an answer with a status below 100.
     Refused(u8),
 }

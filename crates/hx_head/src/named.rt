@@ -2,50 +2,15 @@
 //!
 //! Each byte of the Connection fields is looked at once. An option meets each name as one number
 //! first, so that it is compared in full only with a name that has its number.
-ghost use Rattle.std.specs.Prelude.{◌≡◌, ◌≤◌, ℕ, List, false, length, reverse, All};
+ghost use Rattle.std.specs.Prelude.{◌≡◌, ◌≤◌, ℕ, List, false, length, All};
 ghost use Rattle.std.specs.Str.{str_eq_ignore_ascii_case};
-ghost use Rattle.httparse.specs.Grammar.{skip_ows, trim_ows};
-ghost use Rattle.hx_head.specs.Heads.{field_limit, IsFieldIn};
+ghost use Rattle.hx_head.specs.Heads.{IsFieldIn};
+ghost use Rattle.hx_message.specs.Limits.{field_limit};
 ghost use Rattle.hx_head.specs.Staying.{key_of, lists_name, is_option_of, AreKeys, AreMarked, AddsMarks};
 
 use crate::copy::part;
 use crate::head::FieldSpan;
-use httparse::is_space_or_tab;
-
-pub(crate) fn is_same_name(name: &[u8], other: &[u8]) -> bool
-    ensures { result ≡ str_eq_ignore_ascii_case name.now other.now }
-{
-    name.eq_ignore_ascii_case(other)
-}
-
-fn trim_start(mut bytes: &[u8]) -> &[u8]
-    ensures { result.now ≡ skip_ows bytes.now }
-{
-    while let [first, rest @ ..] = bytes
-        && is_space_or_tab(*first)
-    {
-        bytes = rest;
-    }
-    bytes
-}
-
-fn trim_end(mut bytes: &[u8]) -> &[u8]
-    ensures { result.now ≡ reverse (skip_ows (reverse bytes.now)) }
-{
-    while let [rest @ .., last] = bytes
-        && is_space_or_tab(*last)
-    {
-        bytes = rest;
-    }
-    bytes
-}
-
-#[tactic(auto, unfolding(httparse::specs::Grammar::trim_ows))]
-fn trim(bytes: &[u8]) -> &[u8]
-    ensures { result.now ≡ trim_ows bytes.now }
-{
-    trim_end(trim_start(bytes))
-}
+use crate::options::{is_same_name, trim};
 
 /// A number that two names share where they differ in letter case alone.
 fn key_of_name(name: &[u8]) -> u64

@@ -7,7 +7,7 @@ ghost use Rattle.hx_head.specs.Causes.{code_of};
 pub enum Refusal {
     /// No bytes can follow that make a head.
     NotAHead,
-    /// The first 16,384 bytes hold no whole head.
+    /// The first 16,384 bytes hold no whole head, and could still become one.
     TooLong,
     /// Whatever follows, a head has more than 100 fields.
     TooManyFields,

@@ -1,7 +1,8 @@
 //! Reading a request head.
 ghost use Rattle.std.specs.Prelude.{◌≡◌, ◌≤◌, ◌<◌, List, ℕ, length, take};
 ghost use Rattle.hx_head.specs.Causes.{RequestCause, RefusesOld};
-ghost use Rattle.hx_head.specs.Heads.{head_limit, IsRequestOf};
+ghost use Rattle.hx_head.specs.Heads.{IsRequestOf};
+ghost use Rattle.hx_message.specs.Limits.{head_limit};
 ghost use Rattle.httparse.specs.Spans.{IsRequestWithin};
 ghost use Rattle.hx_head.specs.Reads.{front, IfWhole, FindsRequest, IsSameRequest};
 ghost use Rattle.hx_message.specs.Body.{kind_of_method};

@@ -1,12 +1,14 @@
 //! Which fields go on (RFC 9110, section 7.6.1).
 ghost use Rattle.std.specs.Prelude.{◌≡◌, ◌≤◌, ℕ, List, length, take, filter, All};
 ghost use Rattle.hx_message.specs.Fields.{NameAndValue, is_of_connection, is_kept, is_optional, goes_on};
-ghost use Rattle.hx_head.specs.Heads.{field_limit, IsFieldIn};
+ghost use Rattle.hx_head.specs.Heads.{IsFieldIn};
+ghost use Rattle.hx_message.specs.Limits.{field_limit};
 ghost use Rattle.hx_head.specs.Staying.{stays_in};
 
 use crate::copy::part;
 use crate::head::FieldSpan;
-use crate::named::{is_same_name, mark_named};
+use crate::named::mark_named;
+use crate::options::is_same_name;
 
 #[tactic(auto, unfolding(hx_message::specs::Fields::is_of_connection))]
 fn is_connection_name(name: &[u8]) -> bool

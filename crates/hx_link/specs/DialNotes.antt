@@ -8,5 +8,6 @@ abbrev pub where_told : {A : Type 0} → Bool → List A → Option (List A)
 where_told true xs = Some xs
 where_told false xs = None
 
+-- the dial that the note tells
 abbrev pub note_told : DialNote → DialTold
 note_told d = told_dial d.server d.id d.answered d.tag

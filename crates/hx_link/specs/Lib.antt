@@ -2,11 +2,14 @@ pub mod Told
 pub mod Sources
 pub mod Links
 pub mod Whole
+pub mod Adapters
+pub mod AdapterViews
 pub mod MemorySources
 pub mod MemoryViews
 pub mod Planned
 pub mod MemoryLinks
 pub mod MemoryCauses
+pub mod Followed
 pub mod Places
 pub mod MemoryLinkView
 pub mod Pipes

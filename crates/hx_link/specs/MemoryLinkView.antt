@@ -6,6 +6,7 @@ use Rattle.hx_link.specs.Places.{IsPlace}
 use Rattle.hx_link.specs.MemoryLinks.{MemoryLinkNow, WaitsFor, CannotFail}
 use Rattle.hx_link.specs.declared.memory_link.MemoryLink.TheInside.{Inside}
 
+-- the value of a link in memory
 abbrev pub link_view : Inside → MemoryLinkNow
 link_view m = record {
   plan = m.plan;
@@ -20,7 +21,10 @@ link_view m = record {
     sent_count = length m.sent.items;
     taken = Some (take m.at.taken (planned m.plan.pieces));
     sent = Some m.sent.items;
+    read_length = m.read_length;
+    write_length = m.write_length;
     told_end = m.ended;
+    finished = m.finished;
     on_loop = option_map (λ t. t.0) m.on_loop;
     tag = Some m.plan.line;
     dial = option_map (λ d. (d.0.0, d.1.0)) m.dial;
@@ -30,6 +34,7 @@ link_view m = record {
   starved = m.starved;
 }
 
+-- what its fields keep
 pub record IsLink (m : Inside) : Type 0 where
   pub place : IsPlace m.plan.pieces m.at
   pub within : m.at.taken ≤ length (planned m.plan.pieces)

@@ -4,6 +4,7 @@ use Rattle.hx_link.specs.Told.{LinkState, most_bytes}
 use Rattle.hx_link.specs.Planned.{planned, is_ready, fails_at}
 use Rattle.hx_base.specs.declared.plan.Plan.{Plan}
 
+-- a link in memory, as contracts see it
 pub record MemoryLinkNow : Type 0 where
   pub plan : Plan
   pub state : LinkState
@@ -29,7 +30,10 @@ new_state plan = record {
   sent_count = 0;
   taken = Some [];
   sent = Some [];
+  read_length = 0;
+  write_length = 0;
   told_end = false;
+  finished = false;
   on_loop = None;
   tag = Some plan.line;
   dial = None;
@@ -47,6 +51,10 @@ begun_link plan dial = record (new_link plan) { state = record (new_state plan) 
 -- a link with that loop, or with none
 abbrev pub with_loop : Option ℕ → MemoryLinkNow → MemoryLinkNow
 with_loop on_loop l = record l { state = record l.state { on_loop = on_loop } }
+
+-- a link on which nothing more will be written
+abbrev pub finished_link : MemoryLinkNow → MemoryLinkNow
+finished_link l = record l { state = record l.state { finished = true } }
 
 -- at the moment no piece and no end was due, and it isn't the first call that fails
 abbrev pub WaitsFor : Plan → ℕ → ℕ → ℕ → Type 0

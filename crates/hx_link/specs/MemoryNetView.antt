@@ -5,6 +5,7 @@ use Rattle.hx_link.specs.MemoryLinks.{state_of}
 use Rattle.hx_link.specs.MemoryNets.{MemoryNetNow, IsPlan}
 use Rattle.hx_link.specs.DialNotes.{where_told, note_told}
 
+-- the value of a net in memory
 abbrev pub net_view : Inside → MemoryNetNow
 net_view m = record {
   state = record {
@@ -21,6 +22,7 @@ net_view m = record {
   starved = m.starved;
 }
 
+-- what its fields keep
 pub record IsNet (m : Inside) : Type 0 where
   pub plans : All IsPlan m.plans.items
   pub telling : m.starved ≡ false → m.telling ≡ true

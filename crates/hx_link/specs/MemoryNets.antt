@@ -1,5 +1,5 @@
 -- What a net in memory is to a contract, and exactly what each of its calls does.
-use Rattle.std.specs.Prelude.{◌≡◌, ◌⊎◌, ℕ, ◌-◌, ◌+◌, ◌≤◌, Bool, true, false, ◌||◌, List, [], ◌∷◌, Option, Some, None, IsSome, IfSome, option_map, map, Result, Ok, Err, if◌then◌else◌, ◌==◌}
+use Rattle.std.specs.Prelude.{◌≡◌, ◌⊎◌, ℕ, ◌+◌, ◌≤◌, Bool, true, false, ◌||◌, List, [], Option, Some, None, IsSome, IfSome, option_map, map, Result, Ok, Err}
 use Rattle.hx_base.specs.declared.numbers.ServerNo.{ServerNo}
 use Rattle.hx_base.specs.declared.numbers.ConnId.{ConnId}
 use Rattle.hx_base.specs.declared.plan.Plan.{Plan}
@@ -9,6 +9,7 @@ pub use Rattle.hx_link.specs.Courses.{is_server, next_plan, without_next, refuse
 use Rattle.hx_link.specs.Courses.{after_dial, attached}
 use Rattle.hx_link.specs.MemoryLinks.{MemoryLinkNow, begun_link, state_of}
 
+-- a net in memory, as contracts see it
 pub record MemoryNetNow : Type 0 where
   pub state : NetState
   -- the plans that are left, in order
@@ -107,6 +108,7 @@ KeepsLink old new link =
       starved = old.starved || link.starved;
     }
 
+-- the link is kept among the buried ones, unless no memory was found for it
 abbrev pub MemoryBuries : MemoryNetNow → MemoryNetNow → MemoryLinkNow → Type 0
 MemoryBuries old new link =
     (KeepsLink old new link × (old.room ≤ new.room + 1))

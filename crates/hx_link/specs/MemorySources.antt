@@ -6,12 +6,14 @@ use Rattle.hx_link.specs.declared.answers.Put.{Put}
 use Rattle.hx_link.specs.declared.answers.Got.TheVariants as got
 use Rattle.hx_link.specs.declared.answers.Put.TheVariants as put
 
+-- a source in memory, as contracts see it
 pub record MemorySourceNow : Type 0 where
   pub state : SourceState
   -- which calls fail, counted from 1, and how many were made
   pub fails : List ℕ
   pub calls : ℕ
 
+-- a sink in memory, as contracts see it
 pub record MemorySinkNow : Type 0 where
   pub state : SinkState
   -- how many bytes it takes in all

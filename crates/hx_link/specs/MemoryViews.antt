@@ -4,6 +4,7 @@ use Rattle.hx_link.specs.MemorySources.{MemorySourceNow, MemorySinkNow}
 use Rattle.hx_link.specs.declared.memory_source.MemorySource.TheInside as source
 use Rattle.hx_link.specs.declared.memory_sink.MemorySink.TheInside as sink
 
+-- the value of a source in memory
 abbrev pub source_view : source.Inside → MemorySourceNow
 source_view s = record {
   state = record { faults = s.faults; left = Some (drop s.at s.bytes.items); told_end = s.ended };
@@ -11,6 +12,7 @@ source_view s = record {
   calls = s.calls;
 }
 
+-- the value of a sink in memory
 abbrev pub sink_view : sink.Inside → MemorySinkNow
 sink_view s = record {
   state = record { faults = s.faults; taken = Some s.bytes.items };

@@ -23,6 +23,7 @@ got_count got.NotYet = 0
 got_count got.End = 0
 got_count got.Failed = 0
 
+-- how many bytes a write took
 abbrev pub put_count : Put → ℕ
 put_count (put.Bytes n) = n
 put_count put.NotYet = 0

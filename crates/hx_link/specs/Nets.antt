@@ -14,6 +14,7 @@ pub record DialTold : Type 0 where
   pub answered : Bool
   pub tag : Option ℕ
 
+-- what a net tells
 pub record NetState : Type 0 where
   pub faults : ℕ
   pub loop_no : ℕ
@@ -36,7 +37,7 @@ with_more x told = option_map (λ xs. xs ++ x ∷ []) told
 abbrev pub GainsTold : {A : Type 0} → A → Option (List A) → Option (List A) → Type 0
 GainsTold x old new = (new ≡ with_more x old) ⊎ (new ≡ None)
 
--- nothing was taken of it or sent on it, it counted no fault, and it is attached to no loop
+-- nothing was taken of it or sent on it, it isn't finished, it counted no fault, and it is attached to no loop
 pub record IsFresh (l : LinkState) : Type 0 where
   pub no_loop : l.on_loop ≡ None
   pub no_fault : l.faults ≡ 0
@@ -44,6 +45,7 @@ pub record IsFresh (l : LinkState) : Type 0 where
   pub sent_count : l.sent_count ≡ 0
   pub taken : IfSome l.taken (λ bytes. bytes ≡ [])
   pub sent : IfSome l.sent (λ bytes. bytes ≡ [])
+  pub unfinished : l.finished ≡ false
 
 -- the server and the id are those of its dial, where it tells them
 abbrev pub TellsDial : ServerNo → ConnId → LinkState → Type 0
@@ -57,6 +59,7 @@ pub record IsDialled (server : ServerNo) (id : ConnId) (l : LinkState) : Type 0 
   pub taken : OnSome l.taken (IsSome l.dial)
   pub sent : OnSome l.sent (IsSome l.dial)
 
+-- a dial, as a net tells it
 abbrev pub told_dial : ServerNo → ConnId → Bool → Option ℕ → DialTold
 told_dial server id answered tag = record { server = server; id = id; answered = answered; tag = tag }
 
@@ -78,7 +81,10 @@ NetDials state old new server id (Ok link) =
     × StaysTold old.buried new.buried × IsDialled server id (state link)
 NetDials state old new server id (Err fault) =
     (new ≡ record old {
-      faults = new.faults; dials = new.dials; buried = new.buried; course = option_map (after_dial server) old.course;
+      faults = new.faults;
+      dials = new.dials;
+      buried = new.buried;
+      course = option_map (after_dial server) old.course;
     })
     × HasNoNext server old.course new
     × GainsTold (told_dial server id false None) old.dials new.dials

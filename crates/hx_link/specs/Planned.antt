@@ -25,6 +25,7 @@ left_of_piece (p ∷ pieces) taken =
 abbrev pub has_come : Millis → ℕ → ℕ → ℕ → Bool
 has_come at after now sent = nat_le at.0 now && nat_le after sent
 
+-- the plan has an end, and it is due
 abbrev pub end_has_come : Option (Millis × ℕ) → ℕ → ℕ → Bool
 end_has_come None now sent = false
 end_has_come (Some end) now sent = has_come end.0 end.1 now sent

@@ -1,9 +1,10 @@
 -- What a source, a sink and a link tell of themselves. Contracts alone speak of it.
 -- Counts of faults and of waits are kept in a u64 and stand still at its end.
-use Rattle.std.specs.Prelude.{◌≡◌, ℕ, ◌-◌, ◌^◌, ◌≤◌, Bool, false, List, length, Option, None, IfSome}
+use Rattle.std.specs.Prelude.{◌≡◌, ℕ, ◌-◌, ◌^◌, ◌≤◌, Bool, List, length, Option, IfSome}
 use Rattle.hx_base.specs.Counts.{Rose}
 use Rattle.hx_base.specs.declared.plan.Plan.{Plan}
 
+-- what a source tells
 pub record SourceState : Type 0 where
   -- how often it failed
   pub faults : ℕ
@@ -11,11 +12,13 @@ pub record SourceState : Type 0 where
   pub left : Option (List ℕ)
   pub told_end : Bool
 
+-- what a sink tells
 pub record SinkState : Type 0 where
   pub faults : ℕ
   -- all bytes that it took, where it tells them
   pub taken : Option (List ℕ)
 
+-- what a link tells
 pub record LinkState : Type 0 where
   pub faults : ℕ
   -- how often a read had to wait, and the moment of the last such read
@@ -32,7 +35,12 @@ pub record LinkState : Type 0 where
   -- these bytes, where it tells them
   pub taken : Option (List ℕ)
   pub sent : Option (List ℕ)
+  -- how many bytes the last read asked for, and how many the last write offered
+  pub read_length : ℕ
+  pub write_length : ℕ
   pub told_end : Bool
+  -- it was told that nothing more will be written
+  pub finished : Bool
   -- the loop that it is attached to, or none
   pub on_loop : Option ℕ
   -- its tag, where it tells one
@@ -54,10 +62,3 @@ pub record IsCounted (l : LinkState) : Type 0 where
 -- the most bytes that are taken of a link, and the most that are sent on it
 abbrev pub most_bytes : ℕ
 most_bytes = 2 ^ 63 - 1
-
--- a source and a sink that tell nothing of their bytes, before their first call
-abbrev pub untold_source : SourceState
-untold_source = record { faults = 0; left = None; told_end = false }
-
-abbrev pub untold_sink : SinkState
-untold_sink = record { faults = 0; taken = None }

@@ -16,13 +16,12 @@ mod next_plan;
 mod pipe;
 mod place;
 mod source;
-#[cfg(test)]
-mod tests;
 mod whole;
 
 pub use adapters::{Reading, Writing};
 pub use answers::{Got, Put};
 pub use clock::{Clock, StillClock};
+pub use hx_base::{Piece, Plan};
 pub use link::Link;
 pub use link_bytes::LinkBytes;
 pub use memory_link::MemoryLink;
@@ -33,5 +32,4 @@ pub use moves::{read_into, write_from};
 pub use net::{Net, NetFault};
 pub use pipe::Pipe;
 pub use source::{Sink, Source};
-pub use hx_base::{Piece, Plan};
 pub use whole::{ReadFault, WriteFault, read_all, write_all};

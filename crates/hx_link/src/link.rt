@@ -17,6 +17,7 @@ pub trait Link: Drop {
     fn read(&mut self, now: Millis, into: &mut [u8]) -> Got
         requires room { 0 < length into.old }
         ensures fits { GotFits result (length into.old) }
+        ensures asks { (state self.new).read_length ≡ length into.old }
         ensures reads { LinkReads (state self.old) (state self.new) now.0 result into.new }
         ensures ended { KeepsEnd (state self.old).told_end result }
         ensures limit { ReadKeepsLimit (state self.old).taken_count result }
@@ -26,6 +27,7 @@ pub trait Link: Drop {
     fn write(&mut self, now: Millis, bytes: &[u8]) -> Put
         requires some { 0 < length bytes.now }
         ensures fits { PutFits result (length bytes.now) }
+        ensures offers { (state self.new).write_length ≡ length bytes.now }
         ensures writes { LinkWrites (state self.old) (state self.new) now.0 result bytes.now }
         ensures limit { WriteKeepsLimit (state self.old).sent_count result }
         ensures counted { IsCounted (state self.old) → IsCounted (state self.new) };

@@ -2,8 +2,7 @@
 ghost use Rattle.std.specs.Prelude.{◌≡◌, ◌≤◌, ◌++◌, length, take, IfOk};
 ghost use Rattle.hx_link.specs.Planned.{planned};
 
-use hx_base::Piece;
-use hx_base::{Bytes, Items, NoMemory};
+use hx_base::{Bytes, Items, NoMemory, Piece};
 
 /// All bytes that were sent on a link, and all that were taken of it.
 #[derive(Drop)]

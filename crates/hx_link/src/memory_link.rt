@@ -1,7 +1,7 @@
 //! A link in memory, which follows a plan.
 ghost use Rattle.std.specs.Prelude.{◌≡◌, ◌≤◌, ◌<◌, length, Some, IfSome, IfOk, option_map};
 ghost use Rattle.hx_link.specs.Planned.{fails_at, room_in};
-ghost use Rattle.hx_link.specs.MemoryLinks.{new_link, begun_link, with_loop, KeepsPlan};
+ghost use Rattle.hx_link.specs.MemoryLinks.{new_link, begun_link, with_loop, finished_link, KeepsPlan};
 ghost use Rattle.hx_link.specs.MemoryNets.{dialled_link, IsPlan};
 ghost use Rattle.hx_link.specs.MemoryCauses.{MemoryReads, MemoryWrites};
 
@@ -9,8 +9,7 @@ use crate::answers::{Got, Put};
 use crate::link::Link;
 use crate::link_bytes::{LinkBytes, join_pieces};
 use crate::place::{Due, MOST_TAKEN, Place, find_due, give_next, pass_taken};
-use hx_base::Plan;
-use hx_base::{Bytes, ConnId, Millis, NoMemory, ServerNo, ThreadNo};
+use hx_base::{Bytes, ConnId, Millis, NoMemory, Plan, ServerNo, ThreadNo};
 use std::marker::Model;
 
 /// The most bytes that are sent on a link.
@@ -27,7 +26,10 @@ pub struct MemoryLink {
     read_waits: u64,
     read_wait_at: u64,
     read_waited: bool,
+    read_length: usize,
+    write_length: usize,
     ended: bool,
+    finished: bool,
     starved: bool,
     on_loop: Option<ThreadNo>,
     /// The server and the id for which a net dialled it.
@@ -103,7 +105,10 @@ impl MemoryLink {
             read_waits: 0,
             read_wait_at: 0,
             read_waited: false,
+            read_length: 0,
+            write_length: 0,
             ended: false,
+            finished: false,
             starved: false,
             on_loop: None,
             dial,
@@ -111,7 +116,7 @@ impl MemoryLink {
     }
 
     /// The script line of its plan.
-    pub(crate) fn tag(&self) -> u32
+    pub fn tag(&self) -> u32
         ensures { Some result ≡ self.now.state.tag }
     {
         self.plan.line
@@ -162,6 +167,7 @@ impl Link for MemoryLink {
     fn read(&mut self, now: Millis, into: &mut [u8]) -> Got
         requires room { 0 < length into.old }
         ensures fits { GotFits result (length into.old) }
+        ensures asks { self.new.state.read_length ≡ length into.old }
         ensures reads { LinkReads self.old.state self.new.state now.0 result into.new }
         ensures ended { KeepsEnd self.old.state.told_end result }
         ensures limit { ReadKeepsLimit self.old.state.taken_count result }
@@ -169,6 +175,7 @@ impl Link for MemoryLink {
         ensures answers { MemoryReads self.old self.new now.0 (length into.old) result }
     {
         self.calls = self.calls.saturating_add(1);
+        self.read_length = into.len();
         if fails(self.plan.fail, self.calls) || self.at.taken >= MOST_TAKEN {
             self.faults = self.faults.saturating_add(1);
             return Got::Failed;
@@ -201,12 +208,14 @@ impl Link for MemoryLink {
     fn write(&mut self, now: Millis, bytes: &[u8]) -> Put
         requires some { 0 < length bytes.now }
         ensures fits { PutFits result (length bytes.now) }
+        ensures offers { self.new.state.write_length ≡ length bytes.now }
         ensures writes { LinkWrites self.old.state self.new.state now.0 result bytes.now }
         ensures limit { WriteKeepsLimit self.old.state.sent_count result }
         ensures counted { IsCounted self.old.state → IsCounted self.new.state }
         ensures answers { MemoryWrites self.old self.new (length bytes.now) result }
     {
         self.calls = self.calls.saturating_add(1);
+        self.write_length = bytes.len();
         let left = MOST_SENT - self.sent.len();
         if fails(self.plan.fail, self.calls) || left == 0 || self.starved {
             self.faults = self.faults.saturating_add(1);
@@ -226,8 +235,10 @@ impl Link for MemoryLink {
         }
     }
 
-    /// Changes nothing.
+    /// It is remembered, and fails no write.
     fn finish(&mut self)
-        ensures same { self.new ≡ self.old }
-    {}
+        ensures finishes { self.new ≡ finished_link self.old }
+    {
+        self.finished = true;
+    }
 }

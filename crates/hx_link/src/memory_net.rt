@@ -11,8 +11,7 @@ ghost use Rattle.hx_link.specs.DialNotes.{where_told, note_told};
 use crate::memory_link::MemoryLink;
 use crate::net::{Net, NetFault};
 use crate::next_plan::find_plan;
-use hx_base::Plan;
-use hx_base::{Address, ConnId, Millis, NoMemory, ServerNo, ThreadNo};
+use hx_base::{Address, ConnId, Millis, NoMemory, Plan, ServerNo, ThreadNo};
 use std::alloc::Global;
 use std::marker::Model;
 

@@ -2,8 +2,7 @@
 ghost use Rattle.std.specs.Prelude.{◌≡◌, ◌<◌, ◌++◌, ◌+◌, length, take, drop, slice_index_or, Some, None, MatchOption, IfSome};
 ghost use Rattle.hx_link.specs.MemoryNets.{is_server, next_plan, without_next};
 
-use hx_base::Plan;
-use hx_base::ServerNo;
+use hx_base::{Plan, ServerNo};
 
 /// Whether the plan is one for that server.
 fn is_for(plan: &Plan, server: ServerNo) -> bool

@@ -5,8 +5,7 @@ ghost use Rattle.hx_link.specs.Told.{most_bytes};
 ghost use Rattle.hx_link.specs.Planned.{planned, has_come, end_has_come, left_of_piece};
 ghost use Rattle.hx_link.specs.Places.{IsPlace, IsNext, FindsDue, moved_on};
 
-use hx_base::{Piece, Plan};
-use hx_base::Millis;
+use hx_base::{Millis, Piece, Plan};
 
 /// The most bytes that are taken of a link.
 pub const MOST_TAKEN: usize = 9_223_372_036_854_775_807;

@@ -1,14 +1,14 @@
 -- A message has one head, and so one forwarded text.
-use Rattle.std.proofs.Common.{◌≡◌, ℕ, zero, suc, ◌+◌, ◌<◌, ◌≤◌, List, [], ◌∷◌, ◌++◌, refl, sym, ap, subst, ◌∙◌, inl, inr, arith, Bool, true, false, append_assoc, append-nil, Ok}
+use Rattle.std.proofs.Common.{◌≡◌, ℕ, List, [], ◌∷◌, ◌++◌, refl, sym, ap, subst, ◌∙◌, inl, inr, arith, Bool, false, append_assoc, append-nil, Ok}
 use Rattle.std.specs.List.{flat_map}
-use Rattle.httparse.specs.Grammar.{RequestHead, ResponseHead, ReadsRequest, ReadsResponse, status_code}
+use Rattle.httparse.specs.Grammar.{RequestHead, ResponseHead, ReadsResponse, status_code}
 use Rattle.httparse.proofs.GrammarLemmas.{request_unique, response_unique}
 use Rattle.hx_message.specs.declared.MethodKind.{MethodKind}
 use Rattle.hx_message.specs.declared.BodyKind.{BodyKind}
 use Rattle.hx_message.specs.Body.{Framed, answer_kind}
-use Rattle.hx_message.specs.Forwarded.{BeginsRequest, IsInterim, IsFinal, BeginsInterims, NoRequestBegins, NoAnswerBegins, ForwardsRequest, ForwardsFinal, ForwardsAnswer, forwarded_request, forwarded_answer}
-use Rattle.hx_message.specs.Message.{IsRequestWith, IsAnswerWith}
-use Rattle.hx_message.specs.Partial.{IsPrefix, EndsForwarded, BeginsForwardedAnswer}
+use Rattle.hx_message.specs.Forwarded.{IsInterim, IsFinal, BeginsInterims, ForwardsRequest, ForwardsFinal, ForwardsAnswer, forwarded_request, forwarded_answer}
+use Rattle.hx_message.specs.Message.{IsAnswerWith}
+use Rattle.hx_message.specs.Partial.{IsPrefix, BeginsForwardedAnswer}
 
 pub one_request : (b s t : List ℕ) → ForwardsRequest b s → ForwardsRequest b t → s ≡ t
 one_request b s t (inl (g, r, p, e)) (inl (h, q, p', e')) =
@@ -86,11 +86,13 @@ texts_front closing (g ∷ gs) [] b rest rest' last' (m, p, i, x) y f' =
     absurd (not_final b closing last' g m p i (subst (λ (w : List ℕ). ForwardsFinal w closing last') (sym y) f'))
 texts_front closing (g ∷ gs) (h ∷ hs) b rest rest' last' (m, p, i, x) (n, p', i', y) f' =
     let u = response_unique b g h m n p p' in
-    let r = texts_front closing gs hs m rest rest' last' x (subst (λ (w : List ℕ). BeginsInterims w hs rest') (sym u.1) y) f' in
-    (r.0, append_assoc (forwarded_answer h false) (flat_map (λ g. forwarded_answer g false) hs) last'
-    ∙ ap (λ (w : List ℕ). forwarded_answer h false ++ w) r.1
-    ∙ ap (λ (x : ResponseHead). forwarded_answer x false ++ (flat_map (λ g. forwarded_answer g false) gs ++ r.0)) (sym u.0)
-    ∙ sym (append_assoc (forwarded_answer g false) (flat_map (λ g. forwarded_answer g false) gs) r.0))
+    let r = texts_front closing gs hs m rest rest' last' x (subst (λ (w : List ℕ). BeginsInterims w hs rest') (sym u.1) y) f' in (
+      r.0,
+      append_assoc (forwarded_answer h false) (flat_map (λ g. forwarded_answer g false) hs) last'
+          ∙ ap (λ (w : List ℕ). forwarded_answer h false ++ w) r.1
+          ∙ ap (λ (x : ResponseHead). forwarded_answer x false ++ (flat_map (λ g. forwarded_answer g false) gs ++ r.0)) (sym u.0)
+          ∙ sym (append_assoc (forwarded_answer g false) (flat_map (λ g. forwarded_answer g false) gs) r.0),
+    )
 
 pub begins_prefix : (b : List ℕ) (closing : Bool) (front text : List ℕ) → BeginsForwardedAnswer b closing front → ForwardsAnswer b closing text → IsPrefix front text
 begins_prefix b closing front text (gs, rest, x, inl (p, e)) (hs, rest', y, last', f', e') =

@@ -1,6 +1,6 @@
 -- Bodies: which kind a head gives, and which bytes are a body of a kind (RFC 9112, section 6.3), and
 -- whether the connection persists (RFC 9112, section 9.3).
-use Rattle.std.specs.Prelude.{◌≡◌, ℕ, ◌<◌, Bool, true, false, ◌&&◌, ◌||◌, not, List, [], ◌∷◌, length, if◌then◌else◌, ◌==◌, nat_lt, nat_le, codes, Result, Ok, Err, ⊤}
+use Rattle.std.specs.Prelude.{◌≡◌, ℕ, Bool, true, ◌&&◌, ◌||◌, not, List, [], ◌∷◌, length, if◌then◌else◌, ◌==◌, nat_lt, nat_le, codes, Result, Ok, Err, ⊤}
 use Rattle.std.specs.List.{list_any, list_all}
 use Rattle.std.specs.Char.{is_ascii_digit}
 use Rattle.std.specs.Str.{str_eq_ignore_ascii_case, bytes_eq}
@@ -52,6 +52,7 @@ field_kind (coding ∷ []) lengths =
     else Err UnknownCoding
 field_kind (coding ∷ other ∷ codings) lengths = Err UnknownCoding
 
+-- the kind of a body by the two fields that frame it, or the first fault
 abbrev pub kind_of_fields : List NameAndValue → Framed
 kind_of_fields fields =
     field_kind (values_of (codes "Transfer-Encoding") fields) (values_of (codes "Content-Length") fields)
@@ -62,6 +63,7 @@ with_host fields (Err fault) = Err fault
 with_host fields (Ok kind) =
     if length (values_of (codes "Host") fields) == 1 then Ok kind else Err BadHost
 
+-- the kind of a request's body, or the first fault (RFC 9112, section 6.3)
 unfoldable pub request_kind : RequestHead → Framed
 request_kind g = with_host (read_fields g.fields) (kind_of_fields (read_fields g.fields))
 
@@ -95,9 +97,11 @@ answer_kind m g =
 abbrev pub has_close : List NameAndValue → Bool
 has_close fields = list_any (str_eq_ignore_ascii_case (codes "close")) (connection_options fields)
 
+-- the request wants its connection closed (RFC 9112, section 9.3)
 unfoldable pub wants_close : RequestHead → Bool
 wants_close g = has_close (read_fields g.fields)
 
+-- the answer lets its connection go on (RFC 9112, section 9.3)
 unfoldable pub persists : ResponseHead → Bool
 persists g = g.minor == 1 && not (has_close (read_fields g.fields))
 

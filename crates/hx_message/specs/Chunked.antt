@@ -11,9 +11,11 @@ use Rattle.httparse.specs.Grammar.{AllPass}
 abbrev pub most_digits : ℕ
 most_digits = 16
 
+-- the most bytes of a size line
 abbrev pub most_size_line : ℕ
 most_size_line = 4096
 
+-- the most bytes of a trailer section
 abbrev pub most_trailers : ℕ
 most_trailers = 16384
 
@@ -32,6 +34,7 @@ IsSizeLine digits extension =
     (0 < length digits) × (length digits ≤ most_digits) × IsExtension extension
     × (length digits + length extension + 2 ≤ most_size_line)
 
+-- one chunk with its size line
 pub record Chunk : Type 0 where
   pub digits : List ℕ
   pub extension : List ℕ
@@ -44,12 +47,15 @@ pub record IsChunk (c : Chunk) : Type 0 where
   pub some : 0 < digits_value 16 c.digits
   pub content : length c.content ≡ digits_value 16 c.digits
 
+-- the bytes of a chunk
 abbrev pub print_chunk : Chunk → List ℕ
 print_chunk c = c.digits ++ c.extension ++ crlf_bytes ++ c.content ++ crlf_bytes
 
+-- a byte that may stand in a trailer line
 abbrev pub is_trailer_byte : ℕ → Bool
 is_trailer_byte b = not (b == carriage_return || b == line_feed || b == 0)
 
+-- a trailer line
 abbrev pub IsTrailer : List ℕ → Type 0
 IsTrailer line = (0 < length line) × AllPass is_trailer_byte line
 
@@ -64,6 +70,7 @@ pub record ChunkedBody : Type 0 where
   pub extension : List ℕ
   pub trailers : List (List ℕ)
 
+-- each part of the body is of its form, and the limits are kept
 pub record IsChunkedBody (b : ChunkedBody) : Type 0 where
   pub chunks : All IsChunk b.chunks
   pub last : IsSizeLine b.zeros b.extension
@@ -71,6 +78,7 @@ pub record IsChunkedBody (b : ChunkedBody) : Type 0 where
   pub trailers : All IsTrailer b.trailers
   pub short : length (print_trailers b.trailers) ≤ most_trailers
 
+-- the bytes of a body in chunks
 unfoldable pub print_chunked : ChunkedBody → List ℕ
 print_chunked b =
     flat_map print_chunk b.chunks ++ b.zeros ++ b.extension ++ crlf_bytes ++ print_trailers b.trailers

@@ -1,6 +1,6 @@
 -- The fields of a head: names without letter case, the options of Connection, and which fields go on
 -- (RFC 9110, sections 5.1 and 7.6.1).
-use Rattle.std.specs.Prelude.{◌≡◌, ℕ, Bool, ◌&&◌, ◌||◌, not, List, [], ◌∷◌, map, filter, if◌then◌else◌, ◌==◌, codes}
+use Rattle.std.specs.Prelude.{ℕ, Bool, ◌&&◌, ◌||◌, not, List, [], ◌∷◌, map, filter, if◌then◌else◌, ◌==◌, codes}
 use Rattle.std.specs.List.{flat_map, list_any}
 use Rattle.std.specs.Str.{str_eq_ignore_ascii_case}
 use Rattle.httparse.specs.Ascii.{comma}
@@ -11,6 +11,7 @@ use Rattle.httparse.specs.Spans.{name_and_value}
 abbrev pub NameAndValue : Type 0
 NameAndValue = List ℕ × List ℕ
 
+-- the fields as names and values
 abbrev pub read_fields : List Field → List NameAndValue
 read_fields fields = map name_and_value fields
 

@@ -1,6 +1,6 @@
 -- The texts in which heads go out, and messages with them, whole or in part (RFC 9110, section 7.6;
 -- RFC 9112, sections 2.3, 3 and 4).
-use Rattle.std.specs.Prelude.{◌≡◌, ℕ, ◌<◌, ◌≤◌, ◌⊎◌, Bool, true, false, List, [], ◌∷◌, ◌++◌, if◌then◌else◌, codes}
+use Rattle.std.specs.Prelude.{◌≡◌, ℕ, ◌<◌, ◌≤◌, ◌⊎◌, Bool, false, List, [], ◌∷◌, ◌++◌, if◌then◌else◌, codes}
 use Rattle.std.specs.List.{flat_map}
 use Rattle.httparse.specs.Ascii.{colon, space, crlf_bytes}
 use Rattle.httparse.specs.Grammar.{RequestHead, ResponseHead, ReadsRequest, ReadsResponse, status_code, reason_phrase}
@@ -35,6 +35,7 @@ pub record BeginsRequest (bytes : List ℕ) (g : RequestHead) (rest : List ℕ) 
 abbrev pub IsInterim : ResponseHead → Type 0
 IsInterim g = (100 ≤ status_code g) × (status_code g < 200) × (status_code g ≡ 101 → ⊥)
 
+-- a final head
 abbrev pub IsFinal : ResponseHead → Type 0
 IsFinal g = 200 ≤ status_code g
 

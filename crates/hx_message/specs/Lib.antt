@@ -1,3 +1,4 @@
+pub mod Again
 pub mod Body
 pub mod Chunked
 pub mod Exchanges

@@ -1,5 +1,5 @@
 -- Whole requests and whole answers (RFC 9112, sections 2.1 and 6; RFC 9110, section 15.2).
-use Rattle.std.specs.Prelude.{◌≡◌, ℕ, Bool, true, List, Result, Ok}
+use Rattle.std.specs.Prelude.{◌≡◌, ℕ, true, List, Ok}
 use Rattle.httparse.specs.Grammar.{RequestHead, ResponseHead, ReadsResponse}
 use Rattle.hx_message.specs.declared.MethodKind.{MethodKind}
 use Rattle.hx_message.specs.declared.MethodKind.TheVariants.{Connect}

@@ -13,6 +13,7 @@ pub data HasReason : ℕ → List ℕ → Type 0 where
   gateway_timeout : HasReason 504 (codes "Gateway Timeout")
   version : HasReason 505 (codes "HTTP Version Not Supported")
 
+-- an answer without a body that closes its connection
 unfoldable pub own_text : ℕ → List ℕ → List ℕ
 own_text status reason =
     codes "HTTP/1.1 " ++ decimal status ++ space ∷ reason ++ crlf_bytes

@@ -7,6 +7,12 @@ ghost use Rattle.httparse.specs.Grammar.{ResponseHead};
 ghost use Rattle.hx_message.specs.Message.{IsAnswerWith};
 ghost use Rattle.hx_message.specs.Partial.{IsPrefix, BeginsForwardedAnswer};
 
+mod again;
+mod whole;
+
+pub use again::heads_go_out_as_heads;
+pub use whole::messages_go_out_whole;
+
 /// What a method does to the framing of its answer (RFC 9110, sections 9.3.2 and 9.3.6).
 #[derive(Clone, Copy, Debug, PartialEq, Eq)]
 pub enum MethodKind {

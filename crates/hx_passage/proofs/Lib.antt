@@ -2,4 +2,3 @@ pub mod AnsweringLemmas
 pub mod MoveLemmas
 pub mod ReplyLemmas
 pub mod RequestLemmas
-pub mod WholeLemmas

@@ -99,12 +99,6 @@ sends_bytes old new now n p q fits writes is = (
   ap (λ (xs : List ℕ). pipe xs p.capacity) (sym (take-append-drop n p.bytes)) ∙ ap (λ (x : PipeNow). pipe (take n p.bytes ++ x.bytes) x.capacity) (sym is),
 )
 
--- the same of bytes that are the pipe's
-pub sends_part : (old new : LinkState) (now n : ℕ) (bytes : List ℕ) (p q : PipeNow) → bytes ≡ p.bytes → n ≤ length bytes → LinkWrites old new now (put.Bytes n) bytes
-    → q ≡ pipe (drop n p.bytes) p.capacity → SendsFrom old new p q
-sends_part old new now n bytes p q is fits writes left =
-    sends_bytes old new now n p q (omega (arith, fits, ap length is)) (subst (λ (xs : List ℕ). LinkWrites old new now (put.Bytes n) xs) is writes) left
-
 -- the exchange stays the same one
 pub same_exchange : (a b c : BusyNow) → IsSameExchange a b → IsSameExchange b c → IsSameExchange a c
 same_exchange a b c p q =

@@ -25,9 +25,11 @@ runs_to_end (Length n) = false
 runs_to_end Chunked = false
 runs_to_end ToEnd = true
 
+-- the client is told that its connection closes
 abbrev pub closes : Bool → BodyKind → Bool
 closes wants_close kind = wants_close || runs_to_end kind
 
+-- how an answer passes: to which method, and whether it tells that the connection closes
 abbrev pub manner : MethodKind → Bool → Manner
 manner method closing = record { method = method; closing = closing }
 

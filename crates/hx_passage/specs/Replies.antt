@@ -10,7 +10,7 @@ use Rattle.hx_frame.specs.declared.meter.Meter.{Meter}
 use Rattle.hx_frame.specs.declared.progress.MeterState.TheVariants.{Going, Bad}
 use Rattle.hx_frame.specs.Meters.{state_of}
 use Rattle.hx_link.specs.Told.{LinkState}
-use Rattle.hx_head.specs.Limits.{IsShortAnswer}
+use Rattle.hx_message.specs.Limits.{IsShortAnswer}
 use Rattle.hx_session_parts.specs.OnWay.{AreInterimsOnWay, IsAnswerOnWay}
 use Rattle.hx_passage.specs.declared.halt.Halt.{Halt}
 use Rattle.hx_passage.specs.declared.halt.Halt.TheVariants.{Ended}
@@ -57,6 +57,7 @@ abbrev pub EndsBy : Standing → BodyKind → Finish → Type 0
 EndsBy now kind finish.Told = kind ≡ ToEnd → ⊥
 EndsBy now kind finish.LinkEnded = (kind ≡ ToEnd) × (now.busy.link.told_end ≡ true) × (now.from ≡ [])
 
+-- a whole answer was taken since the start, and all of the text that goes out for it was given
 pub record AnswerHasPassed (start now : Standing) (m : Manner) (g : ResponseHead) (kind : BodyKind) (how : Finish) : Type 0 where
   pub taken : List ℕ
   pub put : List ℕ

@@ -10,7 +10,7 @@ use Rattle.hx_frame.specs.declared.progress.MeterState.TheVariants.{Going, Bad}
 use Rattle.hx_frame.specs.Meters.{state_of, NoBodyBegins}
 use Rattle.hx_link.specs.Told.{LinkState}
 use Rattle.hx_conn.specs.Conns.{BusyNow}
-use Rattle.hx_head.specs.Limits.{IsShortRequest}
+use Rattle.hx_message.specs.Limits.{IsShortRequest}
 use Rattle.hx_session_parts.specs.OnWay.{IsAskOnWay}
 use Rattle.hx_passage.specs.declared.halt.Stop.{Stop}
 use Rattle.hx_passage.specs.declared.halt.Stop.TheVariants as stop
@@ -23,6 +23,7 @@ pub record Standing : Type 0 where
   pub from : List ℕ
   pub to : List ℕ
 
+-- the standing of these four
 abbrev pub standing : LinkState → BusyNow → List ℕ → List ℕ → Standing
 standing client busy from to = record { client = client; busy = busy; from = from; to = to }
 

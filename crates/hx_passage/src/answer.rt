@@ -5,7 +5,7 @@ ghost use Rattle.hx_message.specs.declared.BodyKind.{BodyKind};
 ghost use Rattle.hx_message.specs.declared.BodyKind.TheVariants.{ToEnd};
 ghost use Rattle.hx_frame.specs.declared.progress.MeterState.TheVariants.{Going, Bad};
 ghost use Rattle.hx_frame.specs.Meters.{HasUsed, state_of};
-ghost use Rattle.hx_head.specs.Heads.{head_limit};
+ghost use Rattle.hx_message.specs.Limits.{head_limit};
 ghost use Rattle.hx_conn.specs.Conns.{BusyNow};
 ghost use Rattle.hx_session_parts.specs.Asks.{most_text};
 ghost use Rattle.hx_session_parts.specs.Answers.{IsInterimAt, IsAnswerTo, AnswerLooks};

@@ -1,6 +1,6 @@
 //! Heads that are looked for while bytes come.
 ghost use Rattle.std.specs.Prelude.{◌≡◌, ◌<◌, ◌≤◌, max, IfOk, IfErr};
-ghost use Rattle.hx_head.specs.Heads.{head_limit};
+ghost use Rattle.hx_message.specs.Limits.{head_limit};
 ghost use Rattle.hx_link.specs.Told.{most_bytes};
 ghost use Rattle.hx_session_parts.specs.Asks.{AskLooks, IsAsked};
 ghost use Rattle.hx_session_parts.specs.Answers.{AnswerLooks};

@@ -6,14 +6,9 @@ mod find;
 mod halt;
 mod moves;
 mod request;
-mod whole;
 
 pub use answer::{Finish, Passed, pass_answer};
 pub use find::{Found, find_answer, find_ask};
 pub use halt::{Halt, Stop};
 pub use moves::{give_all, send_all, take_answer, take_more};
 pub use request::{Way, pass_ask};
-pub use whole::requests_go_out_whole;
-
-#[cfg(test)]
-mod tests;

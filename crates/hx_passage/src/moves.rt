@@ -70,11 +70,8 @@ fn send_once<L: Link>(busy: &mut Busy<L>, now: Millis, from: &mut Pipe) -> Resul
     ensures fewer { OnOk result (length from.new.bytes < length from.old.bytes) }
     ensures halts { IfErr result (WriteHalts busy.new.link now.0) }
 {
-    match busy.write_ask(now, from.whole()) {
-        Put::Bytes(n) => {
-            from.drop_front(n);
-            Ok(())
-        }
+    match busy.send_ask(now, from) {
+        Put::Bytes(_) => Ok(()),
         Put::NotYet => Err(Halt::Waits),
         Put::Failed => Err(Halt::Failed),
     }

@@ -4,7 +4,7 @@ ghost use Rattle.httparse.specs.Grammar as grammar;
 ghost use Rattle.hx_message.specs.declared.BodyKind.{BodyKind};
 ghost use Rattle.hx_frame.specs.declared.progress.MeterState.TheVariants.{Going, Bad};
 ghost use Rattle.hx_frame.specs.Meters.{state_of};
-ghost use Rattle.hx_head.specs.Heads.{head_limit};
+ghost use Rattle.hx_message.specs.Limits.{head_limit};
 ghost use Rattle.hx_session_parts.specs.Asks.{most_text, IsAsked, IsAskOf};
 ghost use Rattle.hx_link.specs.Told.{LinkState};
 ghost use Rattle.hx_conn.specs.Conns.{BusyNow};

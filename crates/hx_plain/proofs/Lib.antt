@@ -9,4 +9,3 @@ pub mod Takes
 pub mod Parks
 pub mod Sweeps
 pub mod Rounds
-pub mod Calling

@@ -13,7 +13,8 @@ use Rattle.hx_pool.specs.History.{plain}
 use Rattle.hx_pool.specs.Causes.{place_of, AllLooks}
 use Rattle.hx_plain.specs.declared.rest.Rest.{Rest}
 use Rattle.hx_plain.specs.Book.{Book, add_note, add_notes}
-use Rattle.hx_plain.specs.Row.{Rested, rests_of, spot_in, look_at, looks_run, fits, NoneFits, LastFits, Scanned, Ran, CutAt}
+use Rattle.hx_resting.specs.Row.{fits}
+use Rattle.hx_plain.specs.Row.{Rested, rests_of, spot_in, look_at, looks_run, NoneFits, LastFits, Scanned, Ran, CutAt}
 
 rests_more : {V : Type 0} (shows : V → Shown) (xs : List (Rest V)) (i : ℕ) (d : Rest V) → i < length xs
     → rests_of shows (drop i xs) ≡ record { place = (get_or xs i d).place; shown = shows (get_or xs i d).v } ∷ rests_of shows (drop (i + 1) xs)

@@ -24,7 +24,8 @@ use Rattle.hx_pool.proofs.Histories.{even-append}
 use Rattle.hx_pool.proofs.Calls.{has_kept, looks_marks, looks_even, marks_parked}
 use Rattle.hx_plain.specs.declared.rest.Rest.{Rest}
 use Rattle.hx_plain.specs.Book.{Book, add_note, add_notes}
-use Rattle.hx_plain.specs.Row.{Rested, rests_of, spot_in, looks_run, Scanned, IsFirstVacant, Admits, Refuses, RefusedByRules}
+use Rattle.hx_resting.specs.Row.{RefusedByRules}
+use Rattle.hx_plain.specs.Row.{Rested, rests_of, spot_in, looks_run, Scanned, IsFirstVacant, Admits, Refuses}
 use Rattle.hx_plain.specs.Plain.{AreApart, alone, Known, known, Stands, KeepsAll}
 use Rattle.hx_plain.proofs.Looks.{run_looks, length-looks_run, empty_vacant}
 use Rattle.hx_plain.proofs.Steps.{made, gate_stands, up_stands, down_stands}

@@ -16,7 +16,8 @@ use Rattle.hx_pool.specs.Causes.{place_of}
 use Rattle.hx_pool.specs.Taking.{taking, TakesOwn, TakesNoneOwn, IsBest, is_preferred, is_safe, last_park}
 use Rattle.hx_pool.specs.Totals.{totals_after}
 use Rattle.hx_plain.specs.Book.{Book}
-use Rattle.hx_plain.specs.Row.{Rested, fits, NoneFits, BestFits, TookBest}
+use Rattle.hx_resting.specs.Row.{fits}
+use Rattle.hx_plain.specs.Row.{Rested, NoneFits, BestFits, TookBest}
 use Rattle.hx_plain.specs.Plain.{alone, Known, known, Stands, AreApart, AreKept, AreRising, KeepsAll}
 use Rattle.hx_plain.proofs.Keeping.{keeps_on, takes_by}
 use Rattle.hx_plain.proofs.Moves.{take_stands}

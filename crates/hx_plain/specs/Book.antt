@@ -10,9 +10,11 @@ pub record Book : Type 0 where
   pub board : TableId
   pub notes : List Note
 
+-- the book with a note more
 abbrev pub add_note : Book → Note → Book
 add_note b x = record { board = b.board; notes = b.notes ++ x ∷ [] }
 
+-- the book with these notes more
 abbrev pub add_notes : Book → List Note → Book
 add_notes b xs = record { board = b.board; notes = b.notes ++ xs }
 

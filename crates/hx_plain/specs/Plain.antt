@@ -22,6 +22,7 @@ abbrev pub AreKept : List Note → ServerNo → List Rested → Type 0
 AreKept notes server [] = Unit {0}
 AreKept notes server (x ∷ xs) = (x.shown.server ≡ server) × (what_of notes x.shown.face.id.0 ≡ Some x.shown.what) × AreKept notes server xs
 
+-- these were parked later
 abbrev pub AreLater : List Note → ℕ → List Rested → Type 0
 AreLater notes k [] = Unit {0}
 AreLater notes k (x ∷ xs) = (k < last_park notes x.shown.face.id.0) × AreLater notes k xs

@@ -13,6 +13,7 @@ pub record PlainView : Type 0 where
   pub history : History
   pub last : List Entry
 
+-- the thread of a board with one
 abbrev pub first_thread : ThreadNo
 first_thread = record { 0 = 0 }
 

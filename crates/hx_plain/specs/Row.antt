@@ -1,21 +1,19 @@
 -- Private: the values that rest in one thread's row, and what the looks through it show.
-use Rattle.std.specs.Prelude.{◌≤◌, Option, Some, IfSome, true, false, not, ◌&&◌, ◌⊎◌, zero, suc, ◌≡◌, ◌≢◌, ℕ, ◌+◌, ◌<◌, ◌==◌, Bool, cond, List, [], ◌∷◌, ◌++◌, map, length}
+use Rattle.std.specs.Prelude.{◌≤◌, Option, Some, IfSome, true, false, not, ◌⊎◌, zero, suc, ◌≡◌, ◌≢◌, ℕ, ◌+◌, ◌<◌, ◌==◌, Bool, cond, List, [], ◌∷◌, ◌++◌, map, length}
 use Rattle.hx_base.specs.declared.numbers.ThreadNo.{ThreadNo}
 use Rattle.hx_base.specs.declared.numbers.SessionNo.{SessionNo}
 use Rattle.hx_base.specs.declared.rules.Mode.{Mode}
-use Rattle.hx_base.specs.declared.rules.Mode.TheVariants as mode
-use Rattle.hx_base.specs.declared.rules.PoolRules.{PoolRules}
 use Rattle.hx_base.specs.Shown.{Shown}
 use Rattle.hx_pool.specs.declared.entries.Note.{Note}
 use Rattle.hx_pool.specs.declared.entries.Entry.TheVariants.{Look, Gate, Up, Down}
 use Rattle.hx_pool.specs.declared.refusals.NoPark.{NoPark}
-use Rattle.hx_pool.specs.declared.refusals.NoPark.TheVariants.{Never, NoneKept, RowFull, Draining, PoolFull}
+use Rattle.hx_pool.specs.declared.refusals.NoPark.TheVariants.{RowFull, Draining, PoolFull}
 use Rattle.hx_pool.specs.Table.{Spot, Vacant, Holds, found_of}
 use Rattle.hx_pool.specs.History.{plain}
-use Rattle.hx_pool.specs.Rules.{allows}
 use Rattle.hx_pool.specs.Causes.{place_of, caretaker}
-use Rattle.hx_pool.specs.Taking.{is_safe, taking}
+use Rattle.hx_pool.specs.Taking.{taking}
 use Rattle.hx_pool.specs.Parking.{gated}
+use Rattle.hx_resting.specs.Row.{fits}
 use Rattle.hx_plain.specs.declared.rest.Rest.{Rest}
 use Rattle.hx_plain.specs.Book.{Book, add_notes}
 
@@ -24,6 +22,7 @@ pub record Rested : Type 0 where
   pub place : ℕ
   pub shown : Shown
 
+-- what the values show
 abbrev pub rests_of : {V : Type 0} → (V → Shown) → List (Rest V) → List Rested
 rests_of shows xs = map (λ x. record { place = x.place; shown = shows x.v }) xs
 
@@ -60,10 +59,7 @@ pub record CutAt (rests : List Rested) (i place : ℕ) : Type 0 where
   pub index : length before ≡ i
   pub at : chosen.place ≡ place
 
--- the request may take it, and it is in the list that is meant
-abbrev pub fits : Mode → Bool → Bool → ℕ → Bool
-fits mode first safe uses = allows mode first uses && cond safe (is_safe uses) (not (is_safe uses))
-
+-- the request may take none of them of this list
 abbrev pub NoneFits : Mode → Bool → Bool → List Rested → Type 0
 NoneFits mode first safe [] = Unit {0}
 NoneFits mode first safe (x ∷ xs) = (fits mode first safe x.shown.face.uses ≡ false) × NoneFits mode first safe xs
@@ -108,12 +104,6 @@ pub record IsFirstVacant (rests : List Rested) (p : ℕ) : Type 0 where
   pub vacant : spot_in rests p ≡ Vacant
   pub below : (q : ℕ) → q < p → spot_in rests q ≢ Vacant
 
--- the rules keep no connection
-abbrev pub RefusedByRules : PoolRules → NoPark → Type 0
-RefusedByRules rules Never = rules.mode ≡ mode.Never
-RefusedByRules rules NoneKept = (rules.mode ≢ mode.Never) × ((rules.max ≡ Some 0) ⊎ (rules.delay.0 ≡ 0))
-RefusedByRules rules _ = ⊥
-
 -- a value may be put at the place, and the count went up
 pub record Admits (old new : Book) (t : ThreadNo) (rests : List Rested) (draining : Bool) (max : Option ℕ) (p : ℕ) : Type 0 where
   pub first : IsFirstVacant rests p
@@ -121,11 +111,13 @@ pub record Admits (old new : Book) (t : ThreadNo) (rests : List Rested) (drainin
   pub limit : IfSome max (λ m. length rests < m)
   pub book : new ≡ add_notes old (gated t (looks_run t rests 0 (p + 1)) (plain (Up t (length rests)) ∷ []))
 
+-- the entries of a park that a draining gate refused
 pub record IsShut (old new : Book) (t : ThreadNo) (rests : List Rested) : Type 0 where
   pub p : ℕ
   pub first : IsFirstVacant rests p
   pub book : new ≡ add_notes old (looks_run t rests 0 (p + 1) ++ plain (Gate t true) ∷ [])
 
+-- the entries of a park that the count refused
 pub record IsOverMax (old new : Book) (t : ThreadNo) (rests : List Rested) (max : Option ℕ) (c : ℕ) : Type 0 where
   pub p : ℕ
   pub first : IsFirstVacant rests p

@@ -1,30 +1,13 @@
 //! Whether a value may be parked, and where.
-ghost use Rattle.std.specs.Prelude.{◌≡◌, ◌≢◌, ◌⊎◌, MatchOption, MatchResult};
-ghost use Rattle.hx_base.specs.declared.rules.Mode.TheVariants as mode;
-ghost use Rattle.hx_pool.specs.Parking.{KeepsSome};
-ghost use Rattle.hx_plain.specs.Row.{rests_of, Admits, Refuses, RefusedByRules};
+ghost use Rattle.std.specs.Prelude.{◌≡◌, MatchResult};
+ghost use Rattle.hx_plain.specs.Row.{rests_of, Admits, Refuses};
 
-use crate::choice::{has_room, keeps_any};
 use crate::ledger::Ledger;
 use crate::rest::Rest;
 use crate::row::look_for_vacant;
-use hx_base::{Faced, Mode, PoolRules, ThreadNo};
+use hx_base::{Faced, ThreadNo};
 use hx_pool::{Entry, NoPark};
-
-/// Why the rules keep no connection, whatever rests.
-pub(crate) fn refused_by_rules(rules: &PoolRules) -> Option<NoPark>
-    ensures { MatchOption result
-        ((rules.now.mode ≢ mode.Never) × KeepsSome rules.now)
-        (RefusedByRules rules.now) }
-{
-    if let Mode::Never = rules.mode {
-        return Some(NoPark::Never);
-    }
-    if !keeps_any(rules) {
-        return Some(NoPark::NoneKept);
-    }
-    None
-}
+use hx_resting::has_room;
 
 /// The steps of a park before the value is published: looks up to the first vacant place, the drain
 /// state, the count.

@@ -3,15 +3,11 @@
 #![tactic(auto)]
 
 mod admit;
-mod choice;
 mod ledger;
-mod marks;
 mod plain;
 mod rest;
 mod row;
 mod sweep;
 mod take;
-#[cfg(test)]
-mod tests;
 
 pub use plain::PlainSeat;

@@ -1,18 +1,19 @@
 //! A seat that is alone at its board, which has one row.
 ghost use Rattle.std.specs.Prelude.{◌≡◌, IfOk};
 
-use crate::admit::{admit, refused_by_rules};
-use crate::choice::allows_some;
+use crate::admit::admit;
 use crate::ledger::Ledger;
-use crate::marks::{NO_MARKS, NO_TOTALS, one_mark, with_counted};
 use crate::rest::Rest;
-use crate::sweep::{CARETAKER, caretaker_of, quota_after, sweep};
+use crate::sweep::{CARETAKER, caretaker_of, sweep};
 use crate::take::{Taker, take_best, take_entry};
 use hx_base::{
     ConnId, Faced, Millis, NoMemory, OutOfIds, PlaceNo, PoolRules, ServerNo, SessionNo, ThreadNo,
     Totals,
 };
 use hx_pool::{Entry, HasHistory, LastMarks, NoneOver, Quota, Seat, Unparked};
+use hx_resting::{
+    NO_MARKS, NO_TOTALS, allows_some, one_mark, quota_after, refused_by_rules, with_counted,
+};
 use std::alloc::Global;
 use std::marker::Model;
 
@@ -115,6 +116,7 @@ impl<V: Faced> HasHistory for PlainSeat<V> {
 
 impl<V: Faced> Seat<V> for PlainSeat<V> {
     fn thread(&self) -> ThreadNo {
+        // A look at a field brings in what the type keeps: that the seat stands in one history.
         let _next = &self.next;
         ME
     }
@@ -296,6 +298,8 @@ impl<V: Faced> Seat<V> for PlainSeat<V> {
     }
 
     fn tell(&mut self, other: &mut Self) {
+        // What the type keeps of each seat, brought in by a look at a field: both have the thread ME, so that no two of
+        // them are seats of one board, and the call has no caller.
         let _mine = &self.next;
         let _theirs = &other.next;
         unreachable!()

@@ -3,11 +3,11 @@ ghost use Rattle.std.specs.Prelude.{◌≡◌, ◌+◌, ◌-◌, ◌<◌, ◌≤
 ghost use Rattle.hx_pool.specs.Table.{found_of, Vacant};
 ghost use Rattle.hx_plain.specs.Row.{rests_of, spot_in, NoneFits, LastFits, BestFits, Scanned, CutAt, Ran};
 
-use crate::choice::fits;
 use crate::ledger::Ledger;
 use crate::rest::Rest;
 use hx_base::{Faced, Mode, PlaceNo, ThreadNo};
 use hx_pool::{Entry, Found};
+use hx_resting::fits;
 
 /// How many places a row has.
 pub(crate) const ROW: u8 = 64;

@@ -1,7 +1,6 @@
 //! The caretaker's way through the own row.
 ghost use Rattle.std.specs.Prelude.{◌≡◌, ◌+◌, ◌-◌, ◌≤◌, MatchOption, true, false};
 ghost use Rattle.std.specs.Vec.{vec_capacity};
-ghost use Rattle.hx_pool.specs.Purge.{quota_of};
 ghost use Rattle.hx_plain.specs.Row.{rests_of, Ran, Swept};
 
 use crate::ledger::Ledger;
@@ -9,7 +8,6 @@ use crate::rest::Rest;
 use crate::row::look_for_resting;
 use crate::take::{Taker, leave};
 use hx_base::{Faced, SessionNo, ThreadNo};
-use hx_pool::Quota;
 
 /// The session number under which a purge or a drain takes.
 pub(crate) const CARETAKER: SessionNo = SessionNo(0);
@@ -50,18 +48,4 @@ pub(crate) fn sweep<V: Faced>(
     let face = rest.v.face();
     leave(ledger, caretaker_of(t), rest.place, face, count);
     Some((passed, rest))
-}
-
-/// How many of these resting connections are to be closed after so many intervals: each leaves half
-/// of the rest.
-pub(crate) fn quota_after(t: ThreadNo, count: u64, intervals: u64) -> Quota
-    ensures { result
-        ≡ record { left = quota_of count intervals; row = t.0; place = 0; seen = 0 } }
-{
-    Quota {
-        left: count - (count >> intervals.min(63)),
-        row: t.0,
-        place: 0,
-        seen: 0,
-    }
 }

@@ -67,13 +67,14 @@ moves_along threads T [] low l c = record { count = refl; resting = refl }
 moves_along threads T (x ∷ xs) low l c = moves_more T (after T x) (table_from (after T x) xs) x xs (moves_one threads T x.what x.entry l.0 c)
     (moves_along threads (after T x) xs low.1 l.1 (counted_entry threads T x.what x.entry low.0 l.0 c))
 
-all_own : (t : ThreadNo) (xs : List Note) → t.0 < 1 → AllBelow 1 xs → own_of t xs ≡ xs
+-- where there is one thread, its own entries are all
+pub all_own : (t : ThreadNo) (xs : List Note) → t.0 < 1 → AllBelow 1 xs → own_of t xs ≡ xs
 all_own t [] z low = refl
 all_own t (x ∷ xs) z low =
     let e : (thread_of x.entry).0 ≡ t.0 = let a = low.0 in omega arith in
     ap (λ b. cond b (x ∷ own_of t xs) (own_of t xs)) (eq-eqb (thread_of x.entry).0 t.0 e) ∙ ap (λ l. x ∷ l) (all_own t xs z low.1)
 
-below-second : (k : ℕ) (xs ys : List Note) → AllBelow k (xs ++ ys) → AllBelow k ys
+pub below-second : (k : ℕ) (xs ys : List Note) → AllBelow k (xs ++ ys) → AllBelow k ys
 below-second k [] ys a = a
 below-second k (x ∷ xs) ys a = below-second k xs ys a.1
 

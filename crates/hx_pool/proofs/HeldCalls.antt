@@ -1,5 +1,5 @@
 -- What a session holds, from one call of its thread to the next.
-use Rattle.std.proofs.Common.{◌≡◌, ◌≢◌, eqb, Bool, true, false, cond, List, [], ◌∷◌, ◌++◌, refl, sym, ap, ◌∙◌, subst, Some, None, ⊎_elim, eq-eqb, ne_eqb}
+use Rattle.std.proofs.Common.{◌≡◌, eqb, Bool, true, false, cond, List, [], ◌∷◌, ◌++◌, refl, sym, ap, ◌∙◌, subst, Some, None, ⊎_elim, eq-eqb, ne_eqb}
 use Rattle.std.specs.Prelude.{Ok}
 use Rattle.hx_base.specs.declared.numbers.ThreadNo.{ThreadNo}
 use Rattle.hx_base.specs.declared.numbers.SessionNo.{SessionNo}
@@ -14,25 +14,13 @@ use Rattle.hx_pool.specs.declared.refusals.NoPark.{NoPark}
 use Rattle.hx_pool.specs.declared.refusals.NoPark.TheVariants.{Never, NoneKept, RowFull, Draining, PoolFull}
 use Rattle.hx_pool.specs.Table.{face_of}
 use Rattle.hx_pool.specs.History.{plain}
-use Rattle.hx_pool.specs.Held.{without, held_after, held_from, held_by, HoldsJust}
+use Rattle.hx_pool.specs.Held.{without, held_after, held_from, held_by, HoldsJust, IsApart, AllApart}
 use Rattle.hx_pool.specs.SeatView.{History, Makes}
 use Rattle.hx_pool.specs.Causes.{AllLooks}
 use Rattle.hx_pool.specs.Opening.{Opens, Closes}
 use Rattle.hx_pool.specs.Taking.{taking, Takes}
 use Rattle.hx_pool.specs.Parking.{parked, Settles, Parks, FindsDraining, TakesBack, RefusesPark}
 use Rattle.hx_pool.proofs.Histories.{held_from-append}
-
--- the entry opens, parks, takes or closes nothing for the session
-abbrev pub IsApart : SessionNo → Entry → Type 0
-IsApart n (Open t m id) = m.0 ≢ n.0
-IsApart n (Park t m id place uses) = m.0 ≢ n.0
-IsApart n (Take t m first place id uses) = m.0 ≢ n.0
-IsApart n (Close t m id) = m.0 ≢ n.0
-IsApart n _ = Unit {0}
-
-abbrev pub AllApart : SessionNo → List Note → Type 0
-AllApart n [] = Unit {0}
-AllApart n (x ∷ xs) = IsApart n x.entry × AllApart n xs
 
 apart_entry : (n : SessionNo) (fs : List Face) (e : Entry) → IsApart n e → held_after n fs e ≡ fs
 apart_entry n fs (Open t m id) ne = ap (λ b. cond b (fs ++ face_of id 0 ∷ []) fs) (ne_eqb m.0 n.0 ne)

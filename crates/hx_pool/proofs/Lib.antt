@@ -18,3 +18,10 @@ pub mod Emptied
 pub mod WantSamples
 pub mod Storing
 pub mod CountsRest
+pub mod JustCalls
+pub mod Caretaking
+pub mod WhatStays
+pub mod Wanting
+pub mod DrainSamples
+pub mod RefusedSamples
+pub mod OpenedOnce

@@ -16,6 +16,7 @@ use Rattle.hx_pool.specs.SeatView.{About, History, Makes}
 abbrev pub caretaker : SessionNo
 caretaker = record { 0 = 0 }
 
+-- a place by its row and its number there
 abbrev pub place_of : ℕ → ℕ → PlaceNo
 place_of row place = record { row = row; place = place }
 
@@ -43,6 +44,7 @@ pub record LooksOnly (old new : History) : Type 0 where
 abbrev pub ShowsTaken : ThreadNo → List Note → PlaceNo → Type 0
 ShowsTaken t es place = (found : Found) × (found ≢ Empty) × Among (λ e. e ≡ Look t place found) es
 
+-- a Take at this place
 abbrev pub IsTakeAt : PlaceNo → Entry → Type 0
 IsTakeAt at (Take t n first place id uses) = place ≡ at
 IsTakeAt at _ = ⊥

@@ -13,13 +13,16 @@ use Rattle.hx_pool.specs.SeatView.{History}
 use Rattle.hx_pool.specs.Causes.{LooksOnly, IsCovered, AllCovered, place_of, nth_place, caretaker}
 use Rattle.hx_pool.specs.Taking.{Takes}
 
+-- one note more since the drain was set, if it was
 abbrev pub since_more : Note → Option (List Note) → Option (List Note)
 since_more x None = None
 since_more x (Some es) = Some (es ++ x ∷ [])
 
+-- what was noted since the last drain was set, with one note more
 abbrev pub since_after : Option (List Note) → Note → Option (List Note)
 since_after o x = elim x.entry [ SetGate t draining ↦ cond draining (Some []) (since_more x o) | _ ↦ since_more x o ]
 
+-- the same with these notes more
 abbrev pub since_from : Option (List Note) → List Note → Option (List Note)
 since_from o [] = o
 since_from o (x ∷ xs) = since_from (since_after o x) xs
@@ -45,6 +48,7 @@ pub record DrainsNone (old new : History) : Type 0 where
   pub passed : MatchOption old.passed (new.passed ≡ None) (λ _. new.passed ≡ Some (64 * old.about.threads))
   pub all : IfSome (since_drain new.mine) (λ es. AllCovered old.about es)
 
+-- none of them sets the drain state
 abbrev pub NoSetGate : List Note → Type 0
 NoSetGate [] = Unit {0}
 NoSetGate (x ∷ xs) = (elim x.entry [ SetGate t draining ↦ ⊥ | _ ↦ Unit {0} ]) × NoSetGate xs

@@ -53,5 +53,6 @@ pub record LeavesParked (old new : History) (n : SessionNo) : Type 0 where
   pub parks : Parks held rests n put v
   pub takes : TakesNoneOwn rests new false
 
+-- why the caller gave up
 abbrev pub GivesUp : History → History → SessionNo → Type 0
 GivesUp old new n = HasNoNumber old new ⊎ ClosesRefused old new n ⊎ LeavesParked old new n

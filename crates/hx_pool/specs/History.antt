@@ -11,6 +11,7 @@ use Rattle.hx_pool.specs.Table.{Table, empty_table, Needs, after}
 abbrev pub plain : Entry → Note
 plain e = record { entry = e; what = None }
 
+-- the thread that made the entry
 abbrev pub thread_of : Entry → ThreadNo
 thread_of (Open t n id) = t
 thread_of (Park t n id place uses) = t
@@ -25,6 +26,7 @@ thread_of (Gate t draining) = t
 thread_of (SetGate t draining) = t
 thread_of (Round t k old) = t
 
+-- the entry is one that transcripts print
 abbrev pub is_mark : Entry → Bool
 is_mark (Open t n id) = true
 is_mark (Park t n id place uses) = true
@@ -34,6 +36,7 @@ is_mark (SetGate t draining) = true
 is_mark (Round t k old) = nat_lt old k
 is_mark _ = false
 
+-- the entries of the notes
 abbrev pub entries_of : List Note → List Entry
 entries_of H = map (λ (x : Note). x.entry) H
 
@@ -41,6 +44,7 @@ entries_of H = map (λ (x : Note). x.entry) H
 abbrev pub marks_of : List Note → List Entry
 marks_of H = filter is_mark (entries_of H)
 
+-- the note is of this thread
 abbrev pub is_by : ThreadNo → Note → Bool
 is_by t x = (thread_of x.entry).0 == t.0
 
@@ -48,6 +52,7 @@ is_by t x = (thread_of x.entry).0 == t.0
 abbrev pub own_of : ThreadNo → List Note → List Note
 own_of t H = filter (is_by t) H
 
+-- an Open
 abbrev pub is_open : Note → Bool
 is_open x = elim x.entry [ Open t n id ↦ true | _ ↦ false ]
 
@@ -55,18 +60,23 @@ is_open x = elim x.entry [ Open t n id ↦ true | _ ↦ false ]
 abbrev pub opens_of : List Note → ℕ
 opens_of H = count_by is_open H
 
+-- a Take
 abbrev pub is_take : Note → Bool
 is_take x = elim x.entry [ Take t n first place id uses ↦ true | _ ↦ false ]
 
+-- a Park
 abbrev pub is_park : Note → Bool
 is_park x = elim x.entry [ Park t n id place uses ↦ true | _ ↦ false ]
 
+-- an Up
 abbrev pub is_up : Note → Bool
 is_up x = elim x.entry [ Up t old ↦ true | _ ↦ false ]
 
+-- a Down
 abbrev pub is_down : Note → Bool
 is_down x = elim x.entry [ Down t old ↦ true | _ ↦ false ]
 
+-- how many takes are among them
 abbrev pub takes_of : List Note → ℕ
 takes_of es = count_by is_take es
 
@@ -75,6 +85,7 @@ takes_of es = count_by is_take es
 abbrev pub IsEven : List Note → Type 0
 IsEven es = count_by is_up es + takes_of es ≡ count_by is_down es + count_by is_park es
 
+-- the table after these notes
 abbrev pub table_from : Table → List Note → Table
 table_from T [] = T
 table_from T (x ∷ xs) = table_from (after T x) xs
@@ -88,6 +99,7 @@ abbrev pub EachStep : (Table → Note → Type 0) → Table → List Note → Ty
 EachStep P T [] = Unit {0}
 EachStep P T (x ∷ xs) = P T x × EachStep P (after T x) xs
 
+-- the table has what the entry needs
 abbrev pub MeetsNeeds : Table → Note → Type 0
 MeetsNeeds T x = Needs T x.entry
 

@@ -39,6 +39,7 @@ pub record FindsVacant (t : ThreadNo) (looks : List Note) (place : PlaceNo) : Ty
   pub below : (p : ℕ) → p < place.place → ShowsTaken t looks (place_of place.row p)
   pub vacant : Among (λ e. e ≡ Look t place Empty) looks
 
+-- the Park of this value
 abbrev pub parked : ThreadNo → SessionNo → PlaceNo → Shown → Note
 parked t n place v = record { entry = Park t n v.face.id place v.face.uses; what = Some v.what }
 

@@ -20,6 +20,7 @@ round_at a now = (now.0 - a.start.0) / a.rules.delay.0
 abbrev pub quota_of : ℕ → ℕ → ℕ
 quota_of c intervals = c - c / 2 ^ min intervals 63
 
+-- the Round of a seat at this moment
 abbrev pub round_raised : About → Millis → ℕ → Note
 round_raised a now old = plain (Round a.thread (round_at a now) old)
 
@@ -27,7 +28,7 @@ round_raised a now old = plain (Round a.thread (round_at a now) old)
 pub record GivesQuota (old new : History) (now : Millis) (q : Quota) : Type 0 where
   pub while_ : old.about.rules.delay.0 ≢ 0
   pub was : ℕ
-  pub early : was < round_at old.about now
+  pub late : was < round_at old.about now
   pub c : ℕ
   pub makes : Calls old new (round_raised old.about now was ∷ counted old.about.thread c ∷ [])
   pub answer : q ≡ record { left = quota_of c (round_at old.about now - was); row = old.about.thread.0; place = 0; seen = 0 }
@@ -35,7 +36,7 @@ pub record GivesQuota (old new : History) (now : Millis) (q : Quota) : Type 0 wh
 -- the interval is not a new one
 pub record FindsNotDue (old new : History) (now : Millis) : Type 0 where
   pub was : ℕ
-  pub late : round_at old.about now ≤ was
+  pub early : round_at old.about now ≤ was
   pub makes : Calls old new (round_raised old.about now was ∷ [])
 
 -- due with None

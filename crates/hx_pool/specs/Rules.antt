@@ -26,6 +26,7 @@ MayFollow m T _ = Unit {0}
 abbrev pub KeepsMode : PoolRules → List Note → Type 0
 KeepsMode rules H = EachStep (λ T x. MayFollow rules.mode T x.entry) empty_table H
 
+-- no more rest than the limit lets
 abbrev pub IsBelowMax : PoolRules → Table → Type 0
 IsBelowMax rules T = IfSome rules.max (λ m. T.resting ≤ m)
 

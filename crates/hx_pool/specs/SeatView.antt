@@ -47,6 +47,7 @@ pub record IsOneHistory (a : About) (seen mine : List Note) : Type 0 where
   pub threads : AllBelow a.threads seen
   pub inside : (a.thread.0 < a.threads) × (a.threads ≤ 16)
 
+-- the seat's own entries stand in one legal history
 abbrev pub StandsInOneHistory : History → Type 0
 StandsInOneHistory h = IsOneHistory h.about h.seen h.mine
 

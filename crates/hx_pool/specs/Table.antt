@@ -39,6 +39,7 @@ pub record Table : Type 0 where
   pub draining : Bool
   pub round : ℕ
 
+-- nothing was opened yet
 abbrev pub empty_table : Table
 empty_table = record { conns = λ _. Unopened; uses = λ _. 0; whats = λ _. None; spots = λ _. Vacant; next = 1; count = 0; resting = 0; draining = false; round = 0 }
 
@@ -54,6 +55,7 @@ spot_no place = 64 * place.row + place.place
 abbrev pub IsInRow : PlaceNo → Type 0
 IsInRow place = place.place < 64
 
+-- what stands at a place
 abbrev pub spot_at : Table → PlaceNo → Spot
 spot_at T place = T.spots (spot_no place)
 
@@ -67,6 +69,7 @@ found_of Vacant = Empty
 found_of (Holds f) = Resting f
 found_of (Leaves t) = Leaving
 
+-- the face of a connection with so many uses
 abbrev pub face_of : ConnId → ℕ → Face
 face_of id uses = record { id = id; uses = uses }
 
@@ -110,6 +113,7 @@ after_entry T w (Gate t draining) = T
 after_entry T w (SetGate t draining) = record T { draining = draining }
 after_entry T w (Round t k old) = record T { round = max k old }
 
+-- the table after a note
 abbrev pub after : Table → Note → Table
 after T x = after_entry T x.what x.entry
 

@@ -14,6 +14,7 @@ use Rattle.hx_pool.specs.SeatView.{History, Calls}
 use Rattle.hx_pool.specs.Causes.{AllLooks, IsUnavailableTo, place_of}
 use Rattle.hx_pool.specs.Taking.{Takes}
 
+-- the Count of this thread
 abbrev pub counted : ThreadNo → ℕ → Note
 counted t c = plain (Count t c)
 
@@ -21,6 +22,7 @@ counted t c = plain (Count t c)
 abbrev pub AllowsSome : History → Bool → Type 0
 AllowsSome h first = (u : ℕ) × (allows h.about.rules.mode first u ≡ true)
 
+-- the mode allows the request no connection
 abbrev pub AllowsNone : History → Bool → Type 0
 AllowsNone h first = (u : ℕ) → allows h.about.rules.mode first u ≡ false
 

@@ -14,6 +14,7 @@ use Rattle.hx_pool.specs.Rules.{allows}
 use Rattle.hx_pool.specs.SeatView.{History, Makes}
 use Rattle.hx_pool.specs.Causes.{AllLooks, LooksOnly, place_of}
 
+-- the Take of this face
 abbrev pub taken : ThreadNo → SessionNo → Bool → PlaceNo → Face → Note
 taken t n first place f = plain (Take t n first place f.id f.uses)
 
@@ -47,10 +48,12 @@ is_safe uses = nat_le 2 uses
 abbrev pub is_preferred : Bool → ℕ → ℕ → Bool
 is_preferred first u w = cond first (is_safe u && not (is_safe w)) (is_safe w && not (is_safe u))
 
+-- where the last Park of a connection stands, after one entry more
 abbrev pub park_after : ℕ → ℕ → ℕ → Entry → ℕ
 park_after i k o (Park t n id place uses) = cond (id.0 == i) k o
 park_after i k o _ = o
 
+-- the same after these notes more
 abbrev pub park_from : ℕ → ℕ → ℕ → List Note → ℕ
 park_from i k o [] = o
 park_from i k o (x ∷ xs) = park_from i (k + 1) (park_after i k o x.entry) xs

@@ -4,6 +4,7 @@ use Rattle.hx_base.specs.declared.totals.Totals.{Totals}
 use Rattle.hx_pool.specs.declared.entries.Entry.{Entry}
 use Rattle.hx_pool.specs.declared.entries.Entry.TheVariants.{Open, Park, Take, Close}
 
+-- nothing was counted yet
 abbrev pub no_totals : Totals
 no_totals = record { opened = 0; parked = 0; taken = 0; over = 0; care = 0; closed = 0 }
 
@@ -19,9 +20,11 @@ totals_after s (Take t n first place id uses) = cond (n.0 == 0) (record s { care
 totals_after s (Close t n id) = record s { closed = one_more s.closed }
 totals_after s _ = s
 
+-- the totals after these entries more
 abbrev pub totals_from : Totals → List Entry → Totals
 totals_from s [] = s
 totals_from s (e ∷ es) = totals_from (totals_after s e) es
 
+-- the totals of the entries
 abbrev pub totals_of : List Entry → Totals
 totals_of es = totals_from no_totals es

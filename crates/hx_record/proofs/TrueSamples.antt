@@ -182,6 +182,7 @@ one_client = record {
   left = (told.Served first ∷ [], _, [], refl, refl, refl, refl);
   asks = (refl, lit≤ tt, (refl, lit≤ tt, refl));
   gaves = (refl, lit≤ tt, refl);
+  numbers = (refl, tt);
 }
 
 pub two_client : TilesClient two_records two_asked
@@ -189,6 +190,7 @@ two_client = record {
   left = (told.Served first ∷ told.Served second ∷ [], _, [], refl, refl, refl, refl);
   asks = (refl, lit≤ tt, (refl, lit≤ tt, (refl, lit≤ tt, refl)));
   gaves = (refl, lit≤ tt, (refl, lit≤ tt, refl));
+  numbers = (refl, (refl, tt));
 }
 
 pub one_conn : TilesConn one_record one_carried

@@ -15,7 +15,7 @@ use Rattle.hx_record.specs.declared.served.Left.{Left}
 use Rattle.hx_record.specs.declared.served.Told.{Told}
 use Rattle.hx_record.specs.declared.served.Told.TheVariants as told
 use Rattle.hx_record.specs.Tiles.{ask_of, InOrder, TilesClient, TilesConn}
-use Rattle.hx_record.specs.Samples.{client, ask, answer, other_answer, closing_answer, range, moved, one_asked, one_carried, two_asked, two_carried, first, first_moved, second, second_as, gave_too_short, ask_too_short, closed_untold, gap_in_asks, gap_in_sent, told_after_end, Recounts}
+use Rattle.hx_record.specs.Samples.{client, ask, answer, other_answer, closing_answer, range, moved, one_asked, one_carried, two_asked, two_carried, first, first_moved, second, second_as, gave_too_short, ask_too_short, closed_untold, gap_in_asks, gap_in_sent, told_after_end, begins_at_two, leaves_out_two, Recounts}
 use Rattle.hx_record.proofs.TrueSamples.{ask_head, asked, answer_goes_out, not_closing}
 
 -- ---- records
@@ -119,3 +119,11 @@ late_served (x ∷ y ∷ z ∷ front) back l is none = omega (arith, ap length i
 
 pub late_record : ¬ TilesClient told_after_end two_asked
 late_record t = late_served t.left.0 t.left.2 t.left.1 t.left.3 t.left.6
+
+-- ---- numbers
+
+pub first_is_two : ¬ TilesClient begins_at_two one_asked
+first_is_two t = omega (arith, t.numbers.0)
+
+pub second_is_three : ¬ TilesClient leaves_out_two two_asked
+second_is_three t = omega (arith, t.numbers.1.0)

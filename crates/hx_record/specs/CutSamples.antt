@@ -25,9 +25,11 @@ cut_at took why = record {
   kind = kind.Cut (moved 1 (range 0 28) (range 0 took)) why;
 }
 
+-- the client of the cut exchange
 abbrev pub part_asked : ClientBytes
 part_asked = client ask part_answer
 
+-- the connection of the cut exchange
 abbrev pub part_carried : ConnBytes
 part_carried = conn ask part_answer
 

@@ -33,9 +33,11 @@ closing_answer = codes "HTTP/1.1 200 OK\r\nContent-Length: 2\r\nConnection: clos
 abbrev pub client : List ℕ → List ℕ → ClientBytes
 client took gave = record { worker = record { 0 = 0 }; session = record { 0 = 1 }; took = took; gave = gave }
 
+-- the connection with these bytes
 abbrev pub conn : List ℕ → List ℕ → ConnBytes
 conn sent took = record { server = record { 0 = 0 }; id = record { 0 = 1 }; sent = sent; took = took }
 
+-- a range of bytes
 abbrev pub range : ℕ → ℕ → Span
 range from to = record { from = from; to = to }
 
@@ -62,12 +64,15 @@ Recounts s client conn =
 abbrev pub one_asked : ClientBytes
 one_asked = client ask answer
 
+-- the connection after one exchange
 abbrev pub one_carried : ConnBytes
 one_carried = conn ask answer
 
+-- the client after two exchanges
 abbrev pub two_asked : ClientBytes
 two_asked = client (ask ++ ask) (answer ++ answer)
 
+-- the connection after two exchanges
 abbrev pub two_carried : ConnBytes
 two_carried = conn (ask ++ ask) (answer ++ answer)
 
@@ -75,9 +80,11 @@ two_carried = conn (ask ++ ask) (answer ++ answer)
 abbrev pub first_moved : Carried
 first_moved = moved 1 (range 0 28) (range 0 40)
 
+-- the second exchange on the connection, as one of this number
 abbrev pub second_moved : ℕ → Carried
 second_moved nth = moved nth (range 28 56) (range 40 80)
 
+-- the record of the first request
 abbrev pub first : Served
 first = passed 1 (range 0 28) (range 0 40) first_moved
 
@@ -85,6 +92,7 @@ first = passed 1 (range 0 28) (range 0 40) first_moved
 abbrev pub second_as : ℕ → Served
 second_as nth = passed 2 (range 28 56) (range 40 80) (second_moved nth)
 
+-- the record of the second request
 abbrev pub second : Served
 second = second_as 2
 
@@ -92,6 +100,7 @@ second = second_as 2
 abbrev pub one_record : List Told
 one_record = told.Served first ∷ left (range 28 28) ∷ []
 
+-- both records, and the end of the session
 abbrev pub two_records : List Told
 two_records = told.Served first ∷ told.Served second ∷ left (range 56 56) ∷ []
 
@@ -99,6 +108,7 @@ two_records = told.Served first ∷ told.Served second ∷ left (range 56 56) �
 abbrev pub gave_too_short : Served
 gave_too_short = passed 1 (range 0 28) (range 0 39) first_moved
 
+-- the first record with a request a byte short
 abbrev pub ask_too_short : Served
 ask_too_short = passed 1 (range 0 27) (range 0 40) first_moved
 
@@ -110,6 +120,7 @@ closed_untold = passed 1 (range 0 28) (range 0 59) (record first_moved { closing
 abbrev pub gap_in_asks : List Told
 gap_in_asks = told.Served first ∷ told.Served (record second { ask = range 29 56 }) ∷ left (range 56 56) ∷ []
 
+-- a gap in what was sent on the connection
 abbrev pub gap_in_sent : List Told
 gap_in_sent =
     told.Served first ∷ told.Served (passed 2 (range 28 56) (range 40 80) (moved 2 (range 29 56) (range 40 80)))
@@ -118,3 +129,15 @@ gap_in_sent =
 -- the second request is told after the session's end
 abbrev pub told_after_end : List Told
 told_after_end = told.Served first ∷ left (range 28 28) ∷ told.Served second ∷ []
+
+-- the session's first record says that it is the second, or its second that it is the third
+abbrev pub begins_at_two : List Told
+begins_at_two = told.Served (record first { number = 2 }) ∷ left (range 28 28) ∷ []
+
+-- the second record has number 3
+abbrev pub leaves_out_two : List Told
+leaves_out_two = told.Served first ∷ told.Served (record second { number = 3 }) ∷ left (range 56 56) ∷ []
+
+-- the first record alone, before its session goes on
+abbrev pub first_line : List Told
+first_line = told.Served first ∷ []

@@ -1,8 +1,10 @@
 //! The definitions, tried on records of one exchange and of two. Each function is there for its clauses.
 ghost use Rattle.hx_record.specs.declared.served.CutCause.TheVariants as cut;
 ghost use Rattle.hx_record.specs.declared.served.LeftCause.TheVariants as cause;
+ghost use Rattle.std.specs.Prelude.{◌++◌};
+ghost use Rattle.hx_record.specs.Covers.{CoversClient, CoversConn, FollowsClient, FollowsConn};
 ghost use Rattle.hx_record.specs.CutSamples.{cut_at, own_answer, own_begun, own_of, part_asked, part_carried, RecountsLeft, RecountsOwn};
-ghost use Rattle.hx_record.specs.Samples.{client, closed_untold, closing_answer, ask, answer, first, gap_in_asks, gap_in_sent, gave_too_short, ask_too_short, one_asked, one_carried, one_record, other_answer, second, second_as, told_after_end, two_asked, two_carried, two_records, Recounts};
+ghost use Rattle.hx_record.specs.Samples.{begins_at_two, client, closed_untold, closing_answer, ask, answer, first, first_line, gap_in_asks, gap_in_sent, gave_too_short, ask_too_short, leaves_out_two, one_asked, one_carried, one_record, other_answer, second, second_as, second_moved, told_after_end, two_asked, two_carried, two_records, Recounts};
 ghost use Rattle.hx_record.specs.Tiles.{TilesClient, TilesConn};
 
 /// One exchange: its record is true, and the ranges leave no gap.
@@ -30,11 +32,25 @@ fn wrong_records()
     ensures closed_untold { ¬ Recounts closed_untold (client ask closing_answer) one_carried }
 {}
 
-/// A gap between two ranges, or a record after the session's end: the ranges don't tile.
+/// What the first record covers, and what stands right behind it.
+fn records_follow()
+    ensures client { CoversClient one_asked.worker one_asked.session first_line 28 40 1 }
+    ensures second { FollowsClient second 28 40 1 }
+    ensures gap { ¬ FollowsClient second 27 40 1 }
+    ensures told_again { ¬ FollowsClient second 28 40 0 }
+    ensures conn { CoversConn one_carried.server one_carried.id first_line 28 40 1 }
+    ensures second_on_conn { FollowsConn (second_moved 2) 28 40 1 }
+    ensures counted_again { ¬ FollowsConn (second_moved 1) 28 40 1 }
+    ensures read_on { ¬ RecountsOwn cause.Own (own_of 503 74) (client (ask ++ ask) own_answer) }
+{}
+
+/// A gap between two ranges, a record after the session's end, or a number that isn't the next: the ranges don't tile.
 fn wrong_ranges()
     ensures gap_in_asks { ¬ TilesClient gap_in_asks two_asked }
     ensures gap_in_sent { ¬ TilesConn gap_in_sent two_carried }
     ensures told_after_end { ¬ TilesClient told_after_end two_asked }
+    ensures begins_at_two { ¬ TilesClient begins_at_two one_asked }
+    ensures leaves_out_two { ¬ TilesClient leaves_out_two two_asked }
 {}
 
 /// An exchange whose answer came in part: the record has all of the part, and its cause is not that it came early.

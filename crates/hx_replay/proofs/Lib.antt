@@ -1,2 +1,4 @@
 pub mod RunLemmas
 pub mod WordLemmas
+pub mod SeatCalls
+pub mod ThreeSeats

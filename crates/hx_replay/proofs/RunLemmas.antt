@@ -1,5 +1,5 @@
 -- A replay of what a source gave ends for a cause.
-use Rattle.std.proofs.Common.{◌≡◌, ℕ, ◌<◌, ◌≤◌, List, [], ◌∷◌, length, take, Option, Some, None, Result, Ok, Err, refl, sym, ◌∙◌, inr, subst, arith, lt-ltb}
+use Rattle.std.proofs.Common.{◌≡◌, ℕ, ◌<◌, ◌≤◌, List, [], ◌∷◌, length, take, Option, Some, None, Result, Ok, Err, refl, sym, ◌∙◌, inl, inr, subst, arith, lt-ltb}
 use Rattle.std.specs.Prelude.{codes, IfSome}
 use Rattle.hx_link.specs.Told.{SourceState}
 use Rattle.hx_link.specs.Whole.{ReadsAll}
@@ -11,7 +11,7 @@ use Rattle.hx_form.specs.Forms.{IsUnbuiltScript}
 use Rattle.hx_replay_parts.specs.Replays.{most_script}
 use Rattle.hx_replay.specs.declared.ending.Ending.{Ending}
 use Rattle.hx_replay.specs.declared.ending.Ending.TheVariants as ending
-use Rattle.hx_replay.specs.Endings.{HasCause, IsEndingOf}
+use Rattle.hx_replay.specs.Endings.{HasCause, IsEndingOf, IsReadOut}
 
 -- what holds of the bytes that were read holds of those that were left
 of_left : (P : List ℕ → Type 0) (text : List ℕ) (left : Option (List ℕ)) → IfSome left (λ xs. text ≡ xs) → P text → IfSome left P
@@ -38,7 +38,9 @@ left_is_unbuilt text (Some xs) long front = long_is_unbuilt xs (omega (arith, lo
 
 pub long_has_cause : (old new : SourceState) (text : List ℕ) → ReadsAll most_script old new text → most_script < length text
     → HasCause (codes "replay" ∷ []) old new ending.Unbuilt
-long_has_cause old new text all long = inr (inr (refl, all.same, left_is_unbuilt text old.left long all.front.read))
+long_has_cause old new text all long =
+    let read : IsReadOut old new = record { same = all.same; bytes = text; front = all.front; out = inr long }
+    in inr (inr (refl, read, left_is_unbuilt text old.left long all.front.read))
 
 -- ---- one that isn't
 
@@ -46,7 +48,9 @@ pub replay_has_cause : (old new : SourceState) (text : List ℕ) (e : Ending) �
     → IsEndingOf text e → HasCause (codes "replay" ∷ []) old new e
 replay_has_cause old new text ending.Usage all short r = absurd r
 replay_has_cause old new text ending.SourceFault all short r = absurd r
-replay_has_cause old new text ending.Unbuilt all short r = inr (inr (refl, all.same, of_left IsUnbuiltScript text old.left (all.ended short).1 r))
+replay_has_cause old new text ending.Unbuilt all short r =
+    let read : IsReadOut old new = record { same = all.same; bytes = text; front = all.front; out = inl (all.ended short).0 }
+    in inr (inr (refl, read, of_left IsUnbuiltScript text old.left (all.ended short).1 r))
 replay_has_cause old new text (ending.Done out) all short r =
     record { command = refl; ended = (all.ended short).0; same = all.same; bytes = text; read = (all.ended short).1; short = short; replays = r }
 replay_has_cause old new text (ending.ConfigFault out) all short (line, rule, fault, is) = (

@@ -1,8 +1,8 @@
 -- How a run of the program ends, why, and what is written then.
-use Rattle.std.specs.Prelude.{◌≡◌, ◌⊎◌, ℕ, ◌≤◌, true, List, [], ◌++◌, length, codes, decimal, IfSome}
+use Rattle.std.specs.Prelude.{◌≡◌, ◌⊎◌, ℕ, ◌<◌, ◌≤◌, true, List, [], ◌++◌, length, codes, decimal, IfSome}
 use Rattle.hx_base.specs.Counts.{Rose}
 use Rattle.hx_link.specs.Told.{SourceState, SinkState}
-use Rattle.hx_link.specs.Whole.{WritesAll, WritesPart}
+use Rattle.hx_link.specs.Whole.{ReadsFront, WritesAll, WritesPart}
 use Rattle.hx_form.specs.Forms.{HasConfigFault, IsUnbuiltScript}
 use Rattle.hx_replay_parts.specs.Replays.{most_script, Replays}
 use Rattle.hx_replay.specs.Commands.{Means, NoCommand}
@@ -14,6 +14,7 @@ use Rattle.hx_replay.specs.declared.ending.Ending.TheVariants as ending
 unfoldable pub usage_text : List ℕ
 usage_text = codes "usage: hx_replay replay | check | drill <start> <threads> <sessions>\n"
 
+-- the line for what isn't built yet
 abbrev pub unbuilt_text : List ℕ
 unbuilt_text = codes "unbuilt\n"
 
@@ -40,11 +41,18 @@ pub record HasFault (words : List (List ℕ)) (old new : SourceState) (line rule
   pub read : IfSome old.left (λ left. bytes ≡ left)
   pub fault : HasConfigFault bytes line rule
 
--- what isn't built yet: the other commands, and texts that are neither of these scripts, which were read without a fault
+-- the source was read without a fault, to its end or past the most bytes of a script
+pub record IsReadOut (old new : SourceState) : Type 0 where
+  pub same : new.faults ≡ old.faults
+  pub bytes : List ℕ
+  pub front : ReadsFront old new bytes
+  pub out : (new.told_end ≡ true) ⊎ (most_script < length bytes)
+
+-- what isn't built yet: the other commands, for which nothing is read, and texts that are neither of these scripts
 abbrev pub IsUnbuilt : List (List ℕ) → SourceState → SourceState → Type 0
 IsUnbuilt words old new =
     Means words Check × (new ≡ old) ⊎ Means words Drill × (new ≡ old)
-    ⊎ (Means words Replay × (new.faults ≡ old.faults) × IfSome old.left IsUnbuiltScript)
+    ⊎ (Means words Replay × IsReadOut old new × IfSome old.left IsUnbuiltScript)
 
 -- the cause of each ending; want of memory alone has none
 abbrev pub HasCause : List (List ℕ) → SourceState → SourceState → Ending → Type 0
@@ -65,6 +73,7 @@ text_of (ending.Done text) = text.items
 text_of (ending.ConfigFault text) = text.items
 text_of ending.NoMemory = []
 
+-- the status of an ending
 abbrev pub status_of : Ending → ℕ
 status_of ending.Usage = 1
 status_of ending.SourceFault = 2

@@ -1,9 +1,20 @@
 //! Whole runs over a source and a sink in memory.
 ghost use Rattle.std.specs.Prelude.{◌≡◌, IfOk};
 
+mod answers;
+mod boards;
 mod configs;
+mod configurations;
+mod connections;
+mod frames;
 mod framings;
+mod heads;
+mod links;
 mod modes;
+mod pipes;
+mod scripts;
+mod seats;
+mod transcripts;
 
 use crate::replay_main;
 use hx_link::{MemorySink, MemorySource, Reading, Writing};

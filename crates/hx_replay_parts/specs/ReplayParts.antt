@@ -14,7 +14,7 @@ use Rattle.hx_exchange.specs.declared.finish.Outcome.{Outcome}
 use Rattle.hx_exchange.specs.Exchanges.{IsNew, ComesOut}
 use Rattle.hx_telling.specs.OneExchange.{conn, server, TellsExchange}
 use Rattle.hx_telling.specs.SeatHistory.{StandsAlone, opened_notes}
-use Rattle.hx_telling.specs.TrueTranscript.{IsTrueTranscript}
+use Rattle.hx_script.specs.TrueTranscript.{IsTrueTranscript}
 
 -- the first connection to the server was just dialled, and follows the plan
 pub record IsFirst (s : Plan) (r : RestedNow) : Type 0 where

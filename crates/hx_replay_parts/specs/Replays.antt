@@ -6,7 +6,7 @@ use Rattle.hx_form.specs.declared.route.Route.{Route}
 use Rattle.hx_form.specs.Forms.{IsReplayable, HasConfigFault, IsUnbuiltScript}
 use Rattle.hx_form.specs.Messages.{Messages}
 use Rattle.hx_telling.specs.OneExchange.{TellsExchange}
-use Rattle.hx_telling.specs.TrueTranscript.{IsTrueTranscript}
+use Rattle.hx_script.specs.TrueTranscript.{IsTrueTranscript}
 use Rattle.hx_replay_parts.specs.declared.replay.Replay.{Replay}
 use Rattle.hx_replay_parts.specs.declared.replay.Replay.TheVariants as replay
 

@@ -4,3 +4,4 @@ pub mod Numbers
 pub mod Printed
 pub mod PrintedForm
 pub mod RecordLines
+pub mod TrueTranscript

@@ -8,8 +8,6 @@ mod numbers;
 mod pieces;
 mod print;
 mod record_lines;
-#[cfg(test)]
-mod tests;
 mod transcript;
 
 pub use hx_record::{

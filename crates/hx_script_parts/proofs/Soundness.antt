@@ -16,7 +16,7 @@ use Rattle.hx_base.specs.declared.numbers.ThreadNo.{ThreadNo}
 use Rattle.hx_base.specs.declared.order.Order.{Order}
 use Rattle.hx_config.specs.Limits.{all_servers}
 use Rattle.hx_config.specs.Meaning as config
-use Rattle.hx_config.specs.Keywords.{found, or_else}
+use Rattle.hx_config_parts.specs.Tables.{found, or_else}
 use Rattle.hx_config.specs.declared.parts.Back.{Back}
 use Rattle.hx_config.specs.declared.parts.Front.{Front}
 use Rattle.hx_config.specs.declared.parts.Server.{Server}
@@ -46,7 +46,7 @@ use Rattle.hx_script_parts.specs.Numbers.{greatest, is_decimal, number_in, numbe
 use Rattle.hx_script_parts.specs.Reading.{with_moment, as_moments, empty_link, plan_of, with_plan, ended, closed, with_link, at_moment, is_refused, link_of, link_at, nothing_read}
 use Rattle.hx_script_parts.specs.Sound.{clients_in, plans_in, is_owner_of, clients_open, plans_open, is_link_of, bytes_open, IsSound}
 use Rattle.hx_script_parts.specs.Statements as means
-use Rattle.hx_config.specs.Numbers.{value}
+use Rattle.hx_config_parts.specs.Numbers.{value}
 
 -- what is read is sound, where something is read
 abbrev pub Keeps : config.Meaning → ℕ → Result Reading Rule → Type 0

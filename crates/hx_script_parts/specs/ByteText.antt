@@ -66,6 +66,12 @@ pub record Quotes (text bytes : List ℕ) : Type 0 where
 abbrev pub BeginsQuoted : List ℕ → List ℕ → List ℕ → Type 0
 BeginsQuoted text bytes rest = (q : List ℕ) × Quotes q bytes × (text ≡ q ++ rest)
 
+-- at most one byte text stands at the front
+abbrev pub BeginsWithOne : List ℕ → Type 0
+BeginsWithOne text =
+    (bytes rest more left : List ℕ) → BeginsQuoted text bytes rest → BeginsQuoted text more left
+    → (bytes ≡ more) × (rest ≡ left)
+
 -- no byte text stands at the front
 abbrev pub NoQuoted : List ℕ → Type 0
 NoQuoted text = (bytes rest : List ℕ) → BeginsQuoted text bytes rest → ⊥

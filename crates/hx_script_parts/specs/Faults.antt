@@ -1,5 +1,6 @@
 -- What is wrong with a text, and reading that stops at the first fault.
 use Rattle.std.specs.Prelude.{◌≡◌, ℕ, Bool, Result, Ok, Err, ⊤, if◌then◌else◌}
+pub use Rattle.hx_config_parts.specs.Faults.{◌>>=◌}
 use Rattle.hx_script_parts.specs.declared.fault.Rule.{Rule}
 use Rattle.hx_script_parts.specs.declared.fault.Rule.TheVariants.{BadFirstLine, BadLine, BadNumber, BadText, NoSuchFrontend, NoSuchServer, BadWorker, WrongPlace, MomentFalls, TooLong, TooMany}
 use Rattle.hx_script_parts.specs.declared.fault.Refusal.{Refusal}
@@ -24,12 +25,6 @@ code_of WrongPlace = 8
 code_of MomentFalls = 9
 code_of TooLong = 10
 code_of TooMany = 11
-
--- what is read next, unless there is a fault already
-infixl 10 ◌>>=◌
-abbrev pub ◌>>=◌ : {A B E : Type 0} → Result A E → (A → Result B E) → Result B E
-(Ok x) >>= f = f x
-(Err e) >>= f = Err e
 
 -- nothing, or the rule that is broken
 abbrev pub unless : Bool → Rule → Result ⊤ Rule

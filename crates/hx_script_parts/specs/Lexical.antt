@@ -1,23 +1,15 @@
 -- The lines of a text, and the words of a line.
 use Rattle.std.specs.Prelude.{ℕ, zero, suc, ◌+◌, ◌-◌, Bool, not, List, [], ◌∷◌, length, take, drop, Option, Some, None, Result, Ok, Err, ⊤, if◌then◌else◌, ◌==◌}
 use Rattle.std.specs.List.{prefix_len}
+pub use Rattle.hx_config_parts.specs.Lexical.{on_first, is_kept}
 use Rattle.hx_script_parts.specs.declared.fault.Rule.{Rule}
 use Rattle.hx_script_parts.specs.declared.fault.Rule.TheVariants.{BadLine, BadText}
 use Rattle.hx_script_parts.specs.QuotedReading.{quoted_at}
-
--- x at the front of the first list
-abbrev pub on_first : ℕ → List (List ℕ) → List (List ℕ)
-on_first x [] = (x ∷ []) ∷ []
-on_first x (l ∷ ls) = (x ∷ l) ∷ ls
 
 -- the lines of a text: each line feed ends one; the last may lack it
 unfoldable pub lines_of : List ℕ → List (List ℕ)
 lines_of [] = []
 lines_of (b ∷ bs) = if b == 10 then [] ∷ lines_of bs else on_first b (lines_of bs)
-
--- a byte that does not end a line
-abbrev pub is_kept : ℕ → Bool
-is_kept b = not (b == 10)
 
 -- the first line, and what stands behind its line feed
 abbrev pub first_line : List ℕ → Option (List ℕ × List ℕ)

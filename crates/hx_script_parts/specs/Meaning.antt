@@ -2,9 +2,9 @@
 use Rattle.std.specs.Prelude.{ℕ, ◌+◌, not, List, [], ◌∷◌, length, Option, Some, None, Result, Ok, Err, if◌then◌else◌, nat_lt, bytes_eq, codes}
 use Rattle.hx_base.specs.declared.numbers.Millis.{Millis}
 use Rattle.hx_base.specs.declared.order.Order.{Order}
-use Rattle.hx_config.specs.Faults.{code_of}
+use Rattle.hx_config_parts.specs.Faults.{code_of}
 use Rattle.hx_config.specs.Meaning as config
-use Rattle.hx_config.specs.declared.fault.Flaw as config_fault
+use Rattle.hx_config_parts.specs.declared.fault.Flaw as config_fault
 use Rattle.hx_base.specs.declared.plan.Plan.{Plan}
 use Rattle.hx_script_parts.specs.declared.fault.Rule.{Rule}
 use Rattle.hx_script_parts.specs.declared.fault.Rule.TheVariants.{BadFirstLine, BadLine, TooLong}

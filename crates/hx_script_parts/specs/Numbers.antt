@@ -1,8 +1,8 @@
 -- Numbers: decimal digits without a leading zero.
 use Rattle.std.specs.Prelude.{ℕ, Bool, ◌&&◌, List, Result, Ok, Err, if◌then◌else◌, nat_le}
 use Rattle.hx_base.specs.declared.numbers.Millis.{Millis}
-use Rattle.hx_config.specs.Addresses.{is_plain}
-use Rattle.hx_config.specs.Numbers.{is_number, value, longest}
+use Rattle.hx_config_parts.specs.Addresses.{is_plain}
+use Rattle.hx_config_parts.specs.Numbers.{is_number, value, longest}
 use Rattle.hx_script_parts.specs.declared.fault.Rule.{Rule}
 use Rattle.hx_script_parts.specs.declared.fault.Rule.TheVariants.{BadNumber}
 use Rattle.hx_script_parts.specs.Faults.{◌>>=◌}

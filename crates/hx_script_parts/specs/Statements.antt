@@ -4,7 +4,7 @@ use Rattle.std.specs.Prelude.{ℕ, Bool, true, false, not, List, [], ◌∷◌, 
 use Rattle.hx_base.specs.declared.numbers.ServerNo.{ServerNo}
 use Rattle.hx_base.specs.declared.order.Order.{Order}
 use Rattle.hx_base.specs.declared.order.Order.TheVariants as order
-use Rattle.hx_config.specs.Keywords.{found}
+use Rattle.hx_config_parts.specs.Tables.{found}
 use Rattle.hx_config.specs.Meaning as config
 use Rattle.hx_script_parts.specs.declared.fault.Rule.{Rule}
 use Rattle.hx_script_parts.specs.declared.fault.Rule.TheVariants.{BadLine, WrongPlace, TooMany}

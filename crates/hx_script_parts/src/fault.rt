@@ -3,6 +3,7 @@ ghost use Rattle.std.specs.Prelude.{◌≡◌};
 ghost use Rattle.hx_script_parts.specs.Faults.{code_of};
 ghost use Rattle.hx_script_parts.specs.declared.fault.Refusal.TheVariants.{Memory};
 
+use hx_base::NoMemory;
 use std::alloc::{AllocError, AllocFailed};
 
 /// Why a text was not read.
@@ -87,6 +88,14 @@ pub enum Flaw {
 pub enum Stop {
     Memory,
     At(Flaw),
+}
+
+impl From<NoMemory> for Refusal {
+    ghost from_gives = { λ _ e. e ≡ Memory };
+
+    fn from(_e: NoMemory) -> Refusal {
+        Refusal::Memory
+    }
 }
 
 impl From<AllocError> for Refusal {

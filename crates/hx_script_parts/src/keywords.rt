@@ -1,9 +1,9 @@
 //! The words that lines begin with.
 ghost use Rattle.std.specs.Prelude.{◌≡◌};
-ghost use Rattle.hx_config.specs.Keywords.{found};
+ghost use Rattle.hx_config_parts.specs.Tables.{found};
 ghost use Rattle.hx_script_parts.specs.Keywords.{first_words};
 
-use crate::words::same;
+use hx_config_parts::same;
 
 /// The first word of a line behind the configuration.
 #[derive(Clone, Copy, PartialEq, Eq, Debug)]

@@ -2,7 +2,6 @@
 #![tactic(auto)]
 
 mod fault;
-mod growing;
 mod keywords;
 mod laws;
 mod lines;
@@ -23,6 +22,3 @@ pub use lines::Lines;
 pub use quoted::{byte_text_at_front, one_byte_text, read_quoted};
 pub use read::read_script;
 pub use script::{ClientLine, Script};
-
-#[cfg(test)]
-mod tests;

@@ -1,9 +1,9 @@
 //! The lines of a text.
 ghost use Rattle.std.specs.Prelude.{◌≡◌, ◌≤◌, ◌∷◌, [], length, MatchOption, IfSome, ◌+◌};
 ghost use Rattle.std.specs.Option.{option_map};
-ghost use Rattle.std.specs.List.{prefix_len};
-ghost use Rattle.hx_script_parts.specs.Lexical.{is_kept, lines_of, first_line, behind};
+ghost use Rattle.hx_script_parts.specs.Lexical.{lines_of, first_line, behind};
 
+use hx_config_parts::line_len;
 use std::marker::Model;
 
 /// The lines of a text that were not read yet.
@@ -19,19 +19,6 @@ impl<'a> Model for Lines<'a> {
     ghost Value = { List (List ℕ) };
 
     ghost view = { λ w. lines_of w.rest.now };
-}
-
-// How many bytes stand before the first line feed.
-fn line_len(rest: &[u8]) -> usize
-    ensures len { result ≡ prefix_len is_kept rest.now }
-    ensures within { result ≤ length rest.now }
-{
-    for (i, b) in rest.iter().enumerate() {
-        if *b == b'\n' {
-            return i;
-        }
-    }
-    rest.len()
 }
 
 /// The first line of the rest, and what stands behind it.

@@ -6,9 +6,10 @@ ghost use Rattle.hx_script_parts.specs.Names as named;
 
 use crate::fault::{Refusal, Rule};
 use crate::numbers::GREATEST;
-use crate::words::{Words, same};
+use crate::words::Words;
 use hx_base::{ServerNo, ThreadNo};
 use hx_config::{Back, Config, Front, Server};
+use hx_config_parts::same;
 
 fn front_named(name: &[u8], fronts: &[Front]) -> Option<usize>
     ensures place { result ≡ named.front_from 0 name.now fronts.now }

@@ -4,12 +4,12 @@ ghost use Rattle.hx_script_parts.specs.Faults.{Gives};
 ghost use Rattle.hx_script_parts.specs.Reading as reading;
 
 use crate::fault::{Refusal, Rule};
-use crate::growing::Growing;
 use crate::moments::Moments;
 use crate::reading::{OpenLink, Owner, Reading};
 use crate::script::ClientLine;
 use crate::words::unless_broken;
 use hx_base::{Millis, ServerNo};
+use hx_config_parts::Growing;
 use hx_link::Plan;
 use std::alloc::Global;
 
@@ -83,11 +83,12 @@ impl Reading {
                 worker,
                 moment,
                 plan: plan_of(None, false, link),
-            }),
+            })?,
             Owner::Server { server, refuse } => {
-                self.plans.push(plan_of(Some(server), refuse, link))
+                self.plans.push(plan_of(Some(server), refuse, link))?;
             }
         }
+        Ok(())
     }
 
     /// The open link is over.

@@ -1,7 +1,7 @@
 //! Reading byte texts.
 ghost use Rattle.std.specs.Prelude.{◌≡◌, ℕ, ◌<◌, List, [], ◌∷◌, ◌++◌, All, Some, IfOk, OnOk, MatchOption};
 ghost use Rattle.std.specs.Option.{option_map};
-ghost use Rattle.hx_script_parts.specs.ByteText.{quoted, Quotes, BeginsQuoted, NoQuoted};
+ghost use Rattle.hx_script_parts.specs.ByteText.{quoted, Quotes, BeginsQuoted, NoQuoted, BeginsWithOne};
 ghost use Rattle.hx_script_parts.specs.QuotedReading.{hex_value, first_digit, second_digit, step, read_from, quoted_at};
 ghost use Rattle.hx_script_parts.specs.declared.quoted.ReadMode.TheVariants.{InText, AfterBackslash};
 
@@ -146,8 +146,7 @@ pub fn read_quoted(alloc: Global, text: &[u8]) -> Result<Option<(Vec<u8>, &[u8])
 
 /// A text begins with one byte text alone, and bytes in their one spelling are a byte text.
 pub fn one_byte_text()
-    ensures alone { (text bytes rest more left : List ℕ) → BeginsQuoted text bytes rest
-        → BeginsQuoted text more left → (bytes ≡ more) × (rest ≡ left) }
+    ensures alone { (text : List ℕ) → BeginsWithOne text }
     ensures spelling { (bytes : List ℕ) → All (λ b. b < 256) bytes → Quotes (quoted bytes) bytes }
 {}
 

@@ -17,9 +17,10 @@ use crate::lines::{Lines, skip_lines, split_line};
 use crate::numbers::GREATEST;
 use crate::reading::Reading;
 use crate::script::Script;
-use crate::words::{Words, same, unless_broken};
+use crate::words::{Words, unless_broken};
 use hx_base::Millis;
 use hx_config::{Config, ConfigFault, read_config};
+use hx_config_parts::same;
 use std::alloc::Global;
 
 /// The greatest length of a text.

@@ -1,9 +1,9 @@
 //! What was read so far.
 
-use crate::growing::Growing;
 use crate::moments::Moments;
 use crate::script::ClientLine;
 use hx_base::{Millis, Order, ServerNo, ThreadNo};
+use hx_config_parts::Growing;
 use hx_link::{Piece, Plan};
 
 /// Whose link it is.

@@ -8,9 +8,10 @@ use crate::fault::{Refusal, Rule};
 use crate::keywords::{FirstWord, OrderWord, first_word};
 use crate::numbers::GREATEST;
 use crate::reading::{Owner, Reading};
-use crate::words::{Words, same, unless_broken};
+use crate::words::{Words, unless_broken};
 use hx_base::{Order, ServerNo};
 use hx_config::Config;
+use hx_config_parts::same;
 use hx_link::Piece;
 
 const MOST_CLIENTS: usize = 1000;

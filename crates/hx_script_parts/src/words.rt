@@ -1,5 +1,5 @@
 //! The words of a line.
-ghost use Rattle.std.specs.Prelude.{◌≡◌, ◌≤◌, ◌↔◌, length, Some, None, IsTrue, bytes_eq};
+ghost use Rattle.std.specs.Prelude.{◌≡◌, ◌≤◌, ◌↔◌, length, Some, None, IsTrue};
 ghost use Rattle.std.specs.Option.{option_map};
 ghost use Rattle.std.specs.List.{prefix_len};
 ghost use Rattle.hx_script_parts.specs.Faults.{Gives, unless};
@@ -24,12 +24,6 @@ impl<'a> Model for Words<'a> {
     ghost Value = { Rest };
 
     ghost view = { λ w. option_map (λ s. s.now) w.rest };
-}
-
-pub fn same(word: &[u8], text: &[u8]) -> bool
-    ensures { result ≡ bytes_eq word.now text.now }
-{
-    word == text
 }
 
 pub fn unless_broken(broken: bool, rule: Rule) -> Result<(), Refusal>

@@ -1,5 +1,5 @@
 -- A head goes out with at most two bytes more a field, and a few more.
-use Rattle.std.proofs.Common.{◌≡◌, ℕ, ◌+◌, ◌*◌, ◌≤◌, List, [], ◌∷◌, ◌++◌, length, reverse, filter, Bool, true, false, ap, arith, subst, if◌then◌else◌, Result, Err}
+use Rattle.std.proofs.Common.{◌≡◌, ℕ, ◌+◌, ◌*◌, ◌<◌, ◌≤◌, List, [], ◌∷◌, ◌++◌, length, reverse, filter, Bool, true, false, ap, arith, subst, if◌then◌else◌, Result, Err}
 use Rattle.std.specs.Prelude.{Some, None, Option, codes, take}
 use Rattle.std.specs.List.{flat_map}
 use Rattle.std.proofs.lemmas.List.{length-append, length-reverse, length-map, length-take}
@@ -12,8 +12,10 @@ use Rattle.hx_message.specs.Forwarded.{field_line, closing_line, forwarded_reque
 use Rattle.hx_head.specs.declared.head.RequestHead as request
 use Rattle.hx_head.specs.declared.head.AnswerHead as answer
 use Rattle.hx_head.specs.declared.forward.NoRoom.{NoRoom}
+use Rattle.hx_message.specs.Limits.{head_limit, field_limit}
 use Rattle.hx_head.specs.Writes.{Puts, WritesRequest, WritesAnswer}
 use Rattle.hx_head.specs.Heads.{IsRequestAt, IsAnswerAt, field_in}
+use Rattle.hx_session_parts.specs.Asks.{most_text}
 
 skipped : (xs : List ℕ) → length (skip_ows xs) ≤ length xs
 skipped [] = omega arith
@@ -137,33 +139,33 @@ answer_grows g closing =
     )
 
 -- the fields that are read are as many as those of the head, at most 100
-pub few_fields : (bytes : List ℕ) (h : request.RequestHead) (g : RequestHead) → IsRequestAt bytes h g → length g.fields ≤ 100
+pub few_fields : (bytes : List ℕ) (h : request.RequestHead) (g : RequestHead) → IsRequestAt bytes h g → length g.fields ≤ field_limit
 few_fields bytes h g at =
     omega (arith, ap length at.fields, length-map g.fields name_and_value, length-map (take h.count h.fields) (field_in bytes), length-take h.count h.fields, at.count)
 
-pub few_answer_fields : (bytes : List ℕ) (h : answer.AnswerHead) (g : ResponseHead) → IsAnswerAt bytes h g → length g.fields ≤ 100
+pub few_answer_fields : (bytes : List ℕ) (h : answer.AnswerHead) (g : ResponseHead) → IsAnswerAt bytes h g → length g.fields ≤ field_limit
 few_answer_fields bytes h g at =
     omega (arith, ap length at.fields, length-map g.fields name_and_value, length-map (take h.count h.fields) (field_in bytes), length-take h.count h.fields, at.count)
 
 -- a head of at most 16,384 bytes goes out in at most 18,432
-pub request_fits : (bytes : List ℕ) (h : request.RequestHead) (g : RequestHead) → IsRequestAt bytes h g → h.length ≤ 16384 → length (forwarded_request g) ≤ 18432
+pub request_fits : (bytes : List ℕ) (h : request.RequestHead) (g : RequestHead) → IsRequestAt bytes h g → h.length ≤ head_limit → length (forwarded_request g) ≤ most_text
 request_fits bytes h g at short =
     omega (arith, short, few_fields bytes h g at, request_grows g, ap length at.reads.1, length-append (print_request g) [], length-take h.length bytes)
 
-pub answer_fits : (bytes : List ℕ) (h : answer.AnswerHead) (g : ResponseHead) (closing : Bool) → IsAnswerAt bytes h g → h.length ≤ 16384 → length (forwarded_answer g closing) ≤ 18432
+pub answer_fits : (bytes : List ℕ) (h : answer.AnswerHead) (g : ResponseHead) (closing : Bool) → IsAnswerAt bytes h g → h.length ≤ head_limit → length (forwarded_answer g closing) ≤ most_text
 answer_fits bytes h g closing at short =
     omega (arith, short, few_answer_fields bytes h g at, answer_grows g closing, ap length at.reads.1, length-append (print_response g) [], length-take h.length bytes)
 
--- ---- so its text always has room in an array of that size
+-- ---- so a room that is too short for its text is shorter than that
 
-pub request_has_room : (bytes : List ℕ) (h : request.RequestHead) (old new : List ℕ) (r : Result ℕ NoRoom) (e : NoRoom) → length old ≡ 18432 → r ≡ Err e
-    → WritesRequest bytes h old new r → (g : RequestHead) → IsRequestAt bytes h g → h.length ≤ 16384 → ⊥
-request_has_room bytes h old new r e room is writes g at short =
+pub request_room : (bytes : List ℕ) (h : request.RequestHead) (old new : List ℕ) (r : Result ℕ NoRoom) (e : NoRoom) → r ≡ Err e
+    → WritesRequest bytes h old new r → (g : RequestHead) → IsRequestAt bytes h g → h.length ≤ head_limit → length old < most_text
+request_room bytes h old new r e is writes g at short =
     let put = subst (λ (x : Result ℕ NoRoom). Puts (forwarded_request g) old new x) is (writes g at) in
-    omega (arith, put.1, room, request_fits bytes h g at short)
+    omega (arith, put.1, request_fits bytes h g at short)
 
-pub answer_has_room : (bytes : List ℕ) (h : answer.AnswerHead) (closing : Bool) (old new : List ℕ) (r : Result ℕ NoRoom) (e : NoRoom) → length old ≡ 18432 → r ≡ Err e
-    → WritesAnswer bytes h closing old new r → (g : ResponseHead) → IsAnswerAt bytes h g → h.length ≤ 16384 → ⊥
-answer_has_room bytes h closing old new r e room is writes g at short =
+pub answer_room : (bytes : List ℕ) (h : answer.AnswerHead) (closing : Bool) (old new : List ℕ) (r : Result ℕ NoRoom) (e : NoRoom) → r ≡ Err e
+    → WritesAnswer bytes h closing old new r → (g : ResponseHead) → IsAnswerAt bytes h g → h.length ≤ head_limit → length old < most_text
+answer_room bytes h closing old new r e is writes g at short =
     let put = subst (λ (x : Result ℕ NoRoom). Puts (forwarded_answer g closing) old new x) is (writes g at) in
-    omega (arith, put.1, room, answer_fits bytes h g closing at short)
+    omega (arith, put.1, answer_fits bytes h g closing at short)

@@ -11,8 +11,8 @@ use Rattle.hx_message.specs.Forwarded.{IsInterim, BeginsInterims, ForwardsAnswer
 use Rattle.hx_message.specs.Message.{IsAnswerWith}
 use Rattle.hx_message.specs.Body.{IsBody}
 use Rattle.hx_head.specs.declared.head.AnswerHead.{AnswerHead}
-use Rattle.hx_head.specs.Heads.{head_limit, field_limit, IsAnswerAt}
-use Rattle.hx_head.specs.Limits.{IsShort, BeginsShortInterims, IsShortAnswer}
+use Rattle.hx_head.specs.Heads.{IsAnswerAt}
+use Rattle.hx_message.specs.Limits.{head_limit, field_limit, IsShort, BeginsShortInterims, IsShortAnswer}
 use Rattle.hx_frame.specs.declared.meter.Meter.{Meter}
 use Rattle.hx_frame.specs.declared.progress.MeterState.{MeterState}
 use Rattle.hx_frame.specs.Meters.{MeterFits}
@@ -67,18 +67,19 @@ ask_ends taken put g kind meter way done =
 -- ---- answers
 
 -- interim heads within the limits are interim heads
-begins_interims : (gs : List ResponseHead) (bytes rest : List ℕ) → BeginsShortInterims bytes gs rest → BeginsInterims bytes gs rest
+pub begins_interims : (gs : List ResponseHead) (bytes rest : List ℕ) → BeginsShortInterims bytes gs rest → BeginsInterims bytes gs rest
 begins_interims [] bytes rest is = is
 begins_interims (g ∷ gs) bytes rest (middle, reads, interim, short, after) = (middle, reads, interim, begins_interims gs middle rest after)
 
-pub interims_more : (gs : List ResponseHead) (bytes rest more : List ℕ) → BeginsShortInterims bytes gs rest → BeginsShortInterims (bytes ++ more) gs (rest ++ more)
-interims_more [] bytes rest more is = ap (λ (xs : List ℕ). xs ++ more) is
-interims_more (g ∷ gs) bytes rest more (middle, reads, interim, short, after) = (
+-- with more bytes behind them
+pub short_interims_more : (gs : List ResponseHead) (bytes rest more : List ℕ) → BeginsShortInterims bytes gs rest → BeginsShortInterims (bytes ++ more) gs (rest ++ more)
+short_interims_more [] bytes rest more is = ap (λ (xs : List ℕ). xs ++ more) is
+short_interims_more (g ∷ gs) bytes rest more (middle, reads, interim, short, after) = (
   middle ++ more,
   ReadsResponse-append bytes g middle more reads,
   interim,
   short_more bytes middle more (length g.fields) short,
-  interims_more gs middle rest more after,
+  short_interims_more gs middle rest more after,
 )
 
 one_more : (gs : List ResponseHead) (bytes rest : List ℕ) (g : ResponseHead) → BeginsShortInterims bytes gs rest → ReadsResponse rest g [] → IsInterim g → IsShort rest [] (length g.fields)
@@ -101,7 +102,7 @@ short_head bytes h g at short = short_front bytes h.length (length g.fields) sho
 pub interims_go_on : InterimsGoOn
 interims_go_on taken put bytes h g (gs, begins, is) at short interim = (
   gs ++ g ∷ [],
-  one_more gs (taken ++ take h.length bytes) (take h.length bytes) g (interims_more gs taken [] (take h.length bytes) begins) at.reads interim (short_head bytes h g at short),
+  one_more gs (taken ++ take h.length bytes) (take h.length bytes) g (short_interims_more gs taken [] (take h.length bytes) begins) at.reads interim (short_head bytes h g at short),
   ap (λ (xs : List ℕ). xs ++ forwarded_answer g false) is ∙ sym (texts_more gs g),
 )
 
@@ -110,7 +111,7 @@ answer_begins method closing taken put bytes a g meter (gs, begins, is) to used 
     record {
       interims = gs;
       rest = take a.head.length bytes;
-      begins = interims_more gs taken [] (take a.head.length bytes) begins;
+      begins = short_interims_more gs taken [] (take a.head.length bytes) begins;
       body = [];
       reads = to.at.reads;
       final = to.final;
@@ -126,7 +127,7 @@ answer_goes_on method closing taken put moved g kind old new way on =
     record {
       interims = way.interims;
       rest = way.rest ++ moved;
-      begins = interims_more way.interims taken way.rest moved way.begins;
+      begins = short_interims_more way.interims taken way.rest moved way.begins;
       body = way.body ++ moved;
       reads = ReadsResponse-append way.rest g way.body moved way.reads;
       final = way.final;

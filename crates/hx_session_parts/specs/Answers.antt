@@ -9,7 +9,8 @@ use Rattle.hx_message.specs.Forwarded.{IsInterim, IsFinal, forwarded_answer}
 use Rattle.hx_head.specs.declared.head.AnswerHead.{AnswerHead}
 use Rattle.hx_head.specs.declared.refusal.Refusal.{Refusal}
 use Rattle.hx_head.specs.Causes.{RefusesAnswer}
-use Rattle.hx_head.specs.Heads.{head_limit, IsAnswerAt}
+use Rattle.hx_head.specs.Heads.{IsAnswerAt}
+use Rattle.hx_message.specs.Limits.{head_limit, IsShort}
 use Rattle.hx_link.specs.Pipes.{PipeNow, pipe}
 use Rattle.hx_session_parts.specs.declared.answers.Answered.{Answered}
 use Rattle.hx_session_parts.specs.declared.answers.AnswerLook.{AnswerLook}
@@ -19,9 +20,9 @@ use Rattle.hx_session_parts.specs.declared.answers.AnswerLook.TheVariants.{Inter
 abbrev pub IsShortHead : AnswerHead → Type 0
 IsShortHead h = h.length ≤ head_limit
 
--- a head is at the front of the bytes
+-- a head within the limits is at the front of the bytes
 abbrev pub HasAnswerHead : List ℕ → ResponseHead → Type 0
-HasAnswerHead bytes g = (rest : List ℕ) × ReadsResponse bytes g rest
+HasAnswerHead bytes g = (rest : List ℕ) × ReadsResponse bytes g rest × IsShort bytes rest (length g.fields)
 
 -- the ranges name an interim head of at most 16,384 bytes
 abbrev pub IsInterimAt : List ℕ → AnswerHead → Type 0
@@ -61,3 +62,7 @@ abbrev pub AnswerHasNoRoom : List ℕ → PipeNow → AnswerHead → Bool → Ty
 AnswerHasNoRoom bytes to h closing =
     (g : ResponseHead) → IsAnswerAt bytes h g
     → to.capacity < length to.bytes + length (forwarded_answer g closing)
+
+-- nothing changed, since the text doesn't fit
+abbrev pub LeavesAnswer : PipeNow → PipeNow → PipeNow → PipeNow → AnswerHead → Bool → Type 0
+LeavesAnswer from from' to to' h closing = (from' ≡ from) × (to' ≡ to) × AnswerHasNoRoom from.bytes to h closing

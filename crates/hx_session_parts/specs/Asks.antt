@@ -1,5 +1,5 @@
 -- Requests at the front of a client's pipe, and their heads as they go out (RFC 9112, sections 2 to 6).
-use Rattle.std.specs.Prelude.{◌≡◌, ◌⊎◌, ℕ, ◌+◌, ◌<◌, ◌≤◌, List, ◌++◌, length, drop, Ok, Err}
+use Rattle.std.specs.Prelude.{◌≡◌, ◌⊎◌, ℕ, ◌+◌, ◌<◌, ◌≤◌, List, [], ◌++◌, length, drop, Ok, Err}
 use Rattle.httparse.specs.Grammar.{RequestHead, NeverHasRequest, HasNoRequest, MayBecomeRequest}
 use Rattle.hx_message.specs.declared.MethodKind.TheVariants.{Connect}
 use Rattle.hx_message.specs.declared.BodyKind.{BodyKind}
@@ -10,8 +10,11 @@ use Rattle.hx_message.specs.Forwarded.{BeginsRequest, forwarded_request}
 use Rattle.hx_head.specs.declared.refusal.Refusal.{Refusal}
 use Rattle.hx_head.specs.declared.refusal.Refusal.TheVariants as refusal
 use Rattle.hx_head.specs.Causes.{HasOldRequest, RefusesRequest}
-use Rattle.hx_head.specs.Heads.{head_limit, IsRequestAt}
+use Rattle.hx_head.specs.Heads.{IsRequestAt}
+use Rattle.hx_message.specs.Limits.{head_limit, IsShort}
 use Rattle.hx_head.specs.Reads.{front}
+use Rattle.hx_frame.specs.declared.meter.Meter.{Meter}
+use Rattle.hx_frame.specs.Meters.{HasUsed}
 use Rattle.hx_link.specs.Pipes.{PipeNow, pipe}
 use Rattle.hx_session_parts.specs.declared.asks.Asked.{Asked}
 use Rattle.hx_session_parts.specs.declared.asks.AskLook.{AskLook}
@@ -30,9 +33,9 @@ status_of TooLarge = 431
 status_of NotImplemented = 501
 status_of Version = 505
 
--- a head is at the front of the bytes
+-- a head within the limits is at the front of the bytes
 abbrev pub HasHead : List ℕ → RequestHead → Type 0
-HasHead bytes g = (rest : List ℕ) × BeginsRequest bytes g rest
+HasHead bytes g = (rest : List ℕ) × BeginsRequest bytes g rest × IsShort bytes rest (length g.fields)
 
 -- why the proxy answers a request itself
 abbrev pub RefusesAsk : AskFault → List ℕ → Type 0
@@ -47,7 +50,7 @@ RefusesAsk NotImplemented bytes =
     ⊎ ((kind : BodyKind) × (request_kind g ≡ Ok kind) × (kind_of_method g.method ≡ Connect)))
 RefusesAsk Version bytes = HasOldRequest (front bytes)
 
--- the fault of a head that was refused for the cause, and of one whose framing has the fault
+-- the fault of a head that was refused for the cause
 abbrev pub fault_of_cause : Refusal → AskFault
 fault_of_cause refusal.NotAHead = Bad
 fault_of_cause refusal.TooLong = TooLarge
@@ -55,6 +58,7 @@ fault_of_cause refusal.TooManyFields = TooLarge
 fault_of_cause refusal.Version = Version
 fault_of_cause refusal.Status = Bad
 
+-- the fault of a head whose framing has the fault
 abbrev pub fault_of_framing : FrameFault → AskFault
 fault_of_framing BothLengths = Bad
 fault_of_framing SeveralLengths = Bad
@@ -70,6 +74,7 @@ pub record IsAskOf (bytes : List ℕ) (a : Asked) (g : RequestHead) : Type 0 whe
   pub method : kind_of_method g.method ≡ Connect → ⊥
   pub close : a.wants_close ≡ wants_close g
 
+-- the ranges name some such head
 abbrev pub IsAsked : List ℕ → Asked → Type 0
 IsAsked bytes a = (g : RequestHead) × IsAskOf bytes a g
 
@@ -91,3 +96,11 @@ abbrev pub HasNoRoom : List ℕ → PipeNow → Asked → Type 0
 HasNoRoom bytes to a =
     (g : RequestHead) → IsRequestAt bytes a.head g
     → to.capacity < length to.bytes + length (forwarded_request g)
+
+-- the head went, and the meter stands at the front of the body
+abbrev pub SpellsAskWith : PipeNow → PipeNow → PipeNow → PipeNow → Asked → Meter → Type 0
+SpellsAskWith from from' to to' a meter = SpellsAsk from from' to to' a × HasUsed a.kind [] meter
+
+-- nothing changed, since the text doesn't fit
+abbrev pub LeavesAsk : PipeNow → PipeNow → PipeNow → PipeNow → Asked → Type 0
+LeavesAsk from from' to to' a = (from' ≡ from) × (to' ≡ to) × HasNoRoom from.bytes to a

@@ -19,7 +19,7 @@ use Rattle.hx_session_parts.specs.declared.asks.Asked.{Asked}
 use Rattle.hx_session_parts.specs.declared.answers.Answered.{Answered}
 use Rattle.hx_session_parts.specs.Asks.{IsAskOf}
 use Rattle.hx_session_parts.specs.Answers.{IsShortHead, IsAnswerTo}
-use Rattle.hx_head.specs.Limits.{IsShort, IsShortRequest, BeginsShortInterims, IsShortAnswer}
+use Rattle.hx_message.specs.Limits.{IsShort, IsShortRequest, BeginsShortInterims, IsShortAnswer}
 
 -- the head g, within the limits, was spelled anew, and behind it the bytes of the body that the meter used
 pub record IsAskOnWay (taken put : List ℕ) (g : RequestHead) (kind : BodyKind) (meter : Meter) : Type 0 where
@@ -35,17 +35,20 @@ pub record IsAskOnWay (taken put : List ℕ) (g : RequestHead) (kind : BodyKind)
 abbrev pub GoesOn : BodyKind → List ℕ → Meter → Meter → Type 0
 GoesOn kind moved old new = (before : List ℕ) → HasUsed kind before old → HasUsed kind (before ++ moved) new
 
--- a request begins with its head, goes on byte for byte, and is whole where its meter is done
+-- a request begins with its head
 abbrev pub AskBegins : Type 0
 AskBegins =
     (bytes : List ℕ) (a : Asked) (g : RequestHead) (meter : Meter) → IsAskOf bytes a g → HasUsed a.kind [] meter
     → IsAskOnWay (take a.head.length bytes) (forwarded_request g) g a.kind meter
 
+-- it goes on byte for byte
 abbrev pub AskGoesOn : Type 0
 AskGoesOn =
     (taken put moved : List ℕ) (g : RequestHead) (kind : BodyKind) (old new : Meter)
-    → IsAskOnWay taken put g kind old → GoesOn kind moved old new → IsAskOnWay (taken ++ moved) (put ++ moved) g kind new
+    → IsAskOnWay taken put g kind old → GoesOn kind moved old new
+    → IsAskOnWay (taken ++ moved) (put ++ moved) g kind new
 
+-- it is whole where its meter is done, and went out whole
 abbrev pub AskEnds : Type 0
 AskEnds =
     (taken put : List ℕ) (g : RequestHead) (kind : BodyKind) (meter : Meter)
@@ -72,30 +75,35 @@ pub record IsAnswerOnWay (method : MethodKind) (closing : Bool) (taken put : Lis
   pub framed : answer_kind method g ≡ Ok kind
   pub used : HasUsed kind body meter
 
+-- one more interim head follows
 abbrev pub InterimsGoOn : Type 0
 InterimsGoOn =
     (taken put bytes : List ℕ) (h : AnswerHead) (g : ResponseHead) → AreInterimsOnWay taken put → IsAnswerAt bytes h g
     → IsShortHead h → IsInterim g → AreInterimsOnWay (taken ++ take h.length bytes) (put ++ forwarded_answer g false)
 
+-- behind interim heads an answer begins with its final head
 abbrev pub AnswerBegins : Type 0
 AnswerBegins =
     (method : MethodKind) (closing : Bool) (taken put bytes : List ℕ) (a : Answered) (g : ResponseHead) (meter : Meter)
     → AreInterimsOnWay taken put → IsAnswerTo method bytes a g → HasUsed a.kind [] meter
-    → IsAnswerOnWay method closing (taken ++ take a.head.length bytes) (put ++ forwarded_answer g closing) g a.kind meter
+    → IsAnswerOnWay method closing (taken ++ take a.head.length bytes) (put ++ forwarded_answer g closing)
+    g a.kind meter
 
+-- it goes on byte for byte
 abbrev pub AnswerGoesOn : Type 0
 AnswerGoesOn =
     (method : MethodKind) (closing : Bool) (taken put moved : List ℕ) (g : ResponseHead) (kind : BodyKind)
     (old new : Meter) → IsAnswerOnWay method closing taken put g kind old → GoesOn kind moved old new
     → IsAnswerOnWay method closing (taken ++ moved) (put ++ moved) g kind new
 
--- it is whole where its meter is done, or where the body runs to the end, which the link tells
+-- it is whole where its meter is done, and went out whole
 abbrev pub AnswerEnds : Type 0
 AnswerEnds =
     (method : MethodKind) (closing : Bool) (taken put : List ℕ) (g : ResponseHead) (kind : BodyKind) (meter : Meter)
     → IsAnswerOnWay method closing taken put g kind meter → state_of meter ≡ Done
     → IsAnswerWith method taken g kind × (kind ≡ ToEnd → ⊥) × IsShortAnswer taken × ForwardsAnswer taken closing put
 
+-- where its body runs to the end, which the link tells, it is whole at each byte
 abbrev pub AnswerRunsToEnd : Type 0
 AnswerRunsToEnd =
     (method : MethodKind) (closing : Bool) (taken put : List ℕ) (g : ResponseHead) (meter : Meter)

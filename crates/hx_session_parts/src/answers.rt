@@ -2,15 +2,12 @@
 ghost use Rattle.std.specs.Prelude.{◌≡◌, ◌<◌, ◌+◌, length, true, false};
 ghost use Rattle.hx_head.specs.Heads.{IsAnswerOf};
 ghost use Rattle.hx_session_parts.specs.Asks.{most_text};
-ghost use Rattle.hx_session_parts.specs.Answers.{AnswerLooks, SpellsAnswer, AnswerHasNoRoom, IsShortHead};
+ghost use Rattle.hx_session_parts.specs.Answers.{AnswerLooks, SpellsAnswer, LeavesAnswer, IsShortHead};
 
 use hx_frame::{body_of_answer, persists};
 use hx_head::{AnswerHead, HeadRead, forward_answer, read_answer};
 use hx_link::Pipe;
 use hx_message::{BodyKind, MethodKind};
-
-/// The most bytes of a head that goes out.
-const MOST_TEXT: usize = 18_432;
 
 /// A final answer whose head is there.
 #[derive(Clone, Copy)]
@@ -74,17 +71,19 @@ pub fn spell_answer(from: &mut Pipe, to: &mut Pipe, head: &AnswerHead, closing: 
     requires head { IsAnswerOf from.old.bytes head.now }
     requires short { IsShortHead head.now }
     ensures spelled { result ≡ true → SpellsAnswer from.old from.new to.old to.new head.now closing }
-    ensures none { result ≡ false → (from.new ≡ from.old) × (to.new ≡ to.old) × AnswerHasNoRoom from.old.bytes to.old head.now closing }
+    ensures none { result ≡ false → LeavesAnswer from.old from.new to.old to.new head.now closing }
     ensures room { result ≡ false → to.old.capacity < length to.old.bytes + most_text }
 {
-    let mut text = [0u8; MOST_TEXT];
-    match forward_answer(from.whole(), head, closing, &mut text) {
-        Ok(n) if n <= to.room() => {
-            to.fill(&text[..n]);
+    let room = to.room();
+    match forward_answer(from.whole(), head, closing, to.grow(room)) {
+        Ok(n) => {
+            to.drop_back(room - n);
             from.drop_front(head.length as usize);
             true
         }
-        Ok(_) => false,
-        Err(_) => unreachable!(),
+        Err(_) => {
+            to.drop_back(room);
+            false
+        }
     }
 }

@@ -1,20 +1,17 @@
 //! Requests: their heads are looked at, and spelled anew into the pipe to the server.
-ghost use Rattle.std.specs.Prelude.{◌≡◌, ◌↔◌, IsTrue, IfSome, IfNone, ◌<◌, ◌+◌, length, []};
+ghost use Rattle.std.specs.Prelude.{◌≡◌, ◌↔◌, IsTrue, IfSome, IfNone, ◌<◌, ◌+◌, length};
 ghost use Rattle.hx_message.specs.declared.MethodKind.TheVariants.{Connect};
 ghost use Rattle.hx_frame.specs.declared.progress.MeterState.TheVariants.{Bad};
-ghost use Rattle.hx_frame.specs.Meters.{HasUsed, state_of};
+ghost use Rattle.hx_frame.specs.Meters.{state_of};
 ghost use Rattle.hx_head.specs.Causes.{code_of};
 ghost use Rattle.hx_head.specs.declared.refusal.Refusal.{Refusal};
-ghost use Rattle.hx_session_parts.specs.Asks.{most_text, AskLooks, IsAsked, SpellsAsk, HasNoRoom, fault_of_cause, fault_of_framing};
+ghost use Rattle.hx_session_parts.specs.Asks.{most_text, AskLooks, IsAsked, SpellsAskWith, LeavesAsk, fault_of_cause, fault_of_framing};
 
 use crate::fault::AskFault;
 use hx_frame::{Meter, body_of_request, wants_close};
 use hx_head::{HeadRead, RequestHead, forward_request, read_request};
 use hx_link::Pipe;
 use hx_message::{BodyKind, FrameFault, MethodKind};
-
-/// The most bytes of a head that goes out.
-const MOST_TEXT: usize = 18_432;
 
 /// A request whose head is there.
 #[derive(Clone, Copy)]
@@ -89,19 +86,21 @@ pub fn look_ask(bytes: &[u8]) -> AskLook
 /// has no room for the text, and nothing changed. The meter stands at the front of the body.
 pub fn spell_ask(from: &mut Pipe, to: &mut Pipe, asked: &Asked) -> Option<Meter>
     requires asked { IsAsked from.old.bytes asked.now }
-    ensures spelled { IfSome result (λ meter. SpellsAsk from.old from.new to.old to.new asked.now × HasUsed asked.now.kind [] meter) }
+    ensures spelled { IfSome result (λ meter. SpellsAskWith from.old from.new to.old to.new asked.now meter) }
     ensures good { IfSome result (λ meter. state_of meter ≡ Bad → ⊥) }
-    ensures none { IfNone result ((from.new ≡ from.old) × (to.new ≡ to.old) × HasNoRoom from.old.bytes to.old asked.now) }
+    ensures none { IfNone result (LeavesAsk from.old from.new to.old to.new asked.now) }
     ensures room { IfNone result (to.old.capacity < length to.old.bytes + most_text) }
 {
-    let mut text = [0u8; MOST_TEXT];
-    match forward_request(from.whole(), &asked.head, &mut text) {
-        Ok(n) if n <= to.room() => {
-            to.fill(&text[..n]);
+    let room = to.room();
+    match forward_request(from.whole(), &asked.head, to.grow(room)) {
+        Ok(n) => {
+            to.drop_back(room - n);
             from.drop_front(asked.head.length as usize);
             Some(Meter::new(asked.kind))
         }
-        Ok(_) => None,
-        Err(_) => unreachable!(),
+        Err(_) => {
+            to.drop_back(room);
+            None
+        }
     }
 }

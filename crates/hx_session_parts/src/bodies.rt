@@ -34,6 +34,7 @@ fn feed_front(meter: &mut Meter, bytes: &[u8], to: &mut Pipe) -> Fed
 /// Moves the bytes of a body that are at hand and fit, up to its end or to the first byte after which no body
 /// follows.
 pub fn pass_body(meter: &mut Meter, from: &mut Pipe, to: &mut Pipe) -> Fed
+    ensures within { result.used ≤ length from.old.bytes }
     ensures from { from.new ≡ pipe (drop result.used from.old.bytes) from.old.capacity }
     ensures to { to.new ≡ pipe (to.old.bytes ++ take result.used from.old.bytes) to.old.capacity }
     ensures state { result.state ≡ state_of meter.new }

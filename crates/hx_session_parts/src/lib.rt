@@ -12,6 +12,3 @@ pub use asks::{AskLook, Asked, look_ask, spell_ask};
 pub use bodies::pass_body;
 pub use fault::AskFault;
 pub use on_way::{answers_pass_whole, requests_pass_whole};
-
-#[cfg(test)]
-mod tests;

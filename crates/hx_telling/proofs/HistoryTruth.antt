@@ -21,7 +21,7 @@ use Rattle.hx_pool.proofs.Histories.{marks_of-append}
 use Rattle.hx_pool.proofs.Calls.{looks_marks}
 use Rattle.hx_telling.specs.OneExchange.{worker, session, conn, place, resting_marks, leaving_marks, marks_under, resting_totals, leaving_totals, totals_under, server_of}
 use Rattle.hx_telling.specs.SeatHistory.{opened_notes, parking_notes, closed_notes, over_notes, StandsAlone, IsClosed, IsOver}
-use Rattle.hx_telling.specs.TrueTranscript.{IsTrueServer}
+use Rattle.hx_script.specs.TrueTranscript.{IsTrueServer}
 use Rattle.hx_telling.proofs.Alone.{alone_seen}
 
 -- ---- looks change nothing of what stands behind them

@@ -27,7 +27,7 @@ use Rattle.hx_form.specs.declared.route.Route.{Route}
 use Rattle.hx_form.specs.Messages.{Messages, AreMessages}
 use Rattle.hx_telling.specs.OneExchange.{whole, marks_under, totals_under, server_of, one_carried, one_served, one_left, both_records, one_client, one_conn, TellsExchange}
 use Rattle.hx_telling.specs.SeatHistory.{IsOver}
-use Rattle.hx_telling.specs.TrueTranscript.{AreTrueServers, HasClient, HasConn, IsTrueRecord, IsTrueTranscript}
+use Rattle.hx_script.specs.TrueTranscript.{AreTrueServers, HasClient, HasConn, IsTrueRecord, IsTrueTranscript}
 use Rattle.hx_telling.proofs.HistoryTruth.{true_server}
 
 -- ---- the record
@@ -95,6 +95,7 @@ tiles_client x = record {
   left = (told.Served (served_of x) ∷ [], one_left x.ask x.closing, [], refl, refl, refl, refl);
   asks = (refl, omega arith, (refl, omega arith, refl));
   gaves = (refl, omega arith, refl);
+  numbers = (refl, tt);
 }
 
 holds_one : {A : Type 0} (a : A) → Contains (a ∷ []) a

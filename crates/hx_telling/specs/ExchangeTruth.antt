@@ -7,7 +7,7 @@ use Rattle.hx_form.specs.declared.route.Route.{Route}
 use Rattle.hx_form.specs.Messages.{Messages, AreMessages}
 use Rattle.hx_telling.specs.OneExchange.{TellsExchange}
 use Rattle.hx_telling.specs.SeatHistory.{IsOver}
-use Rattle.hx_telling.specs.TrueTranscript.{IsTrueTranscript}
+use Rattle.hx_script.specs.TrueTranscript.{IsTrueTranscript}
 
 -- a transcript that tells these messages is true, where they are such and a seat's history under the route's rules ends
 -- so; the connection's link told its end where the answer's body runs to it

@@ -3,4 +3,3 @@ pub mod OneExchange
 pub mod SeatHistory
 pub mod Seats
 pub mod Telling
-pub mod TrueTranscript

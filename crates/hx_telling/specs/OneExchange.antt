@@ -32,15 +32,19 @@ use Rattle.hx_form.specs.Messages.{Messages}
 abbrev pub worker : ThreadNo
 worker = record { 0 = 0 }
 
+-- its session, the first one
 abbrev pub session : SessionNo
 session = record { 0 = 1 }
 
+-- its server, the first one
 abbrev pub server : ServerNo
 server = record { 0 = 0 }
 
+-- its connection, the first one
 abbrev pub conn : ConnId
 conn = record { 0 = 1 }
 
+-- the first place of its row
 abbrev pub place : PlaceNo
 place = record { row = 0; place = 0 }
 
@@ -73,15 +77,19 @@ leaving_marks = Open worker session conn ∷ Close worker session conn ∷ SetGa
 abbrev pub rests : PoolRules → Bool → Bool
 rests rules persists = may_rest rules && persists
 
+-- the marks under these rules, by whether the answer lets the connection be used again
 abbrev pub marks_under : PoolRules → Bool → List Entry
 marks_under rules persists = if rests rules persists then resting_marks else leaving_marks
 
+-- the totals where the connection rests
 abbrev pub resting_totals : Totals
 resting_totals = record { opened = 1; parked = 1; taken = 0; over = 0; care = 1; closed = 1 }
 
+-- the totals where it does not
 abbrev pub leaving_totals : Totals
 leaving_totals = record { opened = 1; parked = 0; taken = 0; over = 0; care = 0; closed = 1 }
 
+-- the totals under these rules, by whether the answer lets the connection be used again
 abbrev pub totals_under : PoolRules → Bool → Totals
 totals_under rules persists = if rests rules persists then resting_totals else leaving_totals
 
@@ -89,6 +97,7 @@ totals_under rules persists = if rests rules persists then resting_totals else l
 abbrev pub server_of : Route → List Entry → ServerPart
 server_of r marks = record { back = r.back; server = r.server; rules = r.rules; marks = marks }
 
+-- the range of all bytes
 abbrev pub whole : List ℕ → Span
 whole bytes = record { from = 0; to = length bytes }
 
@@ -126,9 +135,11 @@ abbrev pub both_records : List ℕ → List ℕ → List ℕ → List ℕ → Bo
 both_records ask answer sent gave closing =
     told.Served (one_served ask answer sent gave closing) ∷ told.Left (one_left ask closing) ∷ []
 
+-- the bytes of the client's link
 abbrev pub one_client : List ℕ → List ℕ → ClientBytes
 one_client ask gave = record { worker = worker; session = session; took = ask; gave = gave }
 
+-- the bytes of the connection's link
 abbrev pub one_conn : List ℕ → List ℕ → ConnBytes
 one_conn sent answer = record { server = server; id = conn; sent = sent; took = answer }
 

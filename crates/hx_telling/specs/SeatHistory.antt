@@ -19,6 +19,7 @@ pub record StandsAlone (h : History) (entries : List Note) : Type 0 where
   pub mine : h.mine ≡ entries
   pub one : StandsInOneHistory h
 
+-- the connection is opened
 abbrev pub opened_notes : List Note
 opened_notes = plain (Open worker session conn) ∷ []
 
@@ -28,12 +29,15 @@ parking_notes what =
     plain (Gate worker false) ∷ plain (Up worker 0)
     ∷ record { entry = Park worker session conn place 1; what = Some what } ∷ plain (Gate worker false) ∷ []
 
+-- and then rests, behind these looks
 abbrev pub parked_notes : List Note → What → List Note
 parked_notes looks what = opened_notes ++ (looks ++ parking_notes what)
 
+-- and then the server drains
 abbrev pub draining_notes : List Note → What → List Note
 draining_notes looks what = parked_notes looks what ++ plain (SetGate worker true) ∷ []
 
+-- and then the caretaker takes it, behind these looks
 abbrev pub drained_notes : List Note → What → List Note → List Note
 drained_notes looks what more =
     draining_notes looks what ++ (more ++ taking worker caretaker false place (face_of conn 1) 1)
@@ -42,9 +46,11 @@ drained_notes looks what more =
 abbrev pub left_notes : List Note
 left_notes = opened_notes ++ plain (Close worker session conn) ∷ []
 
+-- closed by its session, and then the server drains
 abbrev pub over_notes : List Note
 over_notes = left_notes ++ plain (SetGate worker true) ∷ []
 
+-- and at last the caretaker closes it
 abbrev pub closed_notes : List Note → What → List Note → List Note
 closed_notes looks what more = drained_notes looks what more ++ plain (Close worker caretaker conn) ∷ []
 

@@ -27,6 +27,7 @@ abbrev pub TellsMarks : Journal → List Entry → Type 0
 TellsMarks j marks =
     (rules : PoolRules) (persists : Bool) (what : What) → HasEnded rules persists j what → marks ≡ marks_under rules persists
 
+-- the totals are those of the run, where it is over
 abbrev pub TellsTotals : Journal → Totals → Type 0
 TellsTotals j totals =
     (rules : PoolRules) (persists : Bool) (what : What) → HasEnded rules persists j what → totals ≡ totals_under rules persists

@@ -13,13 +13,14 @@ use Rattle.hx_message.proofs.Unique.{interim_final, one_answer}
 use Rattle.hx_head.specs.declared.refusal.Refusal.{Refusal}
 use Rattle.hx_head.specs.declared.refusal.Refusal.TheVariants.{NotAHead, TooLong, TooManyFields, Version, Status}
 use Rattle.hx_head.specs.Causes.{RefusesAnswer}
-use Rattle.hx_head.specs.Limits.{IsShortAnswer}
+use Rattle.hx_message.specs.Limits.{IsShortAnswer}
 use Rattle.hx_frame.specs.Meters.{IsProperPart, NoBodyBegins}
 use Rattle.hx_frame.proofs.EndLemmas.{one_body_end}
 use Rattle.hx_session_parts.specs.Answers.{BreaksAnswer}
+use Rattle.hx_session_parts.proofs.OnWayLemmas.{begins_interims}
 use Rattle.hx_whole.proofs.FramingLemmas.{no_fault, one_kind}
 use Rattle.hx_whole.proofs.FrontLemmas.{behind, answer_of_all, answer_comes, answer_in_front}
-use Rattle.hx_whole.proofs.InterimLemmas.{HasFinal, IsNext, interims_of_short, one_final, final_more, head_follows, next_head}
+use Rattle.hx_whole.proofs.InterimLemmas.{HasFinal, IsNext, one_final, final_more, head_follows, next_head}
 
 -- the final head of a whole answer
 final_of : (m : MethodKind) (bytes : List ℕ) (g : ResponseHead) (kind : BodyKind) (x : IsAnswerWith m bytes g kind)
@@ -37,7 +38,7 @@ final_of_short : (bytes : List ℕ) (x : IsShortAnswer bytes) → HasFinal bytes
 final_of_short bytes x = record {
   interims = x.interims;
   rest = x.rest;
-  begins = interims_of_short x.interims bytes x.rest x.begins;
+  begins = begins_interims x.interims bytes x.rest x.begins;
   reads = x.reads;
   final = x.final;
 }
@@ -51,7 +52,7 @@ goes_on g k (inr (final, same)) = (omega (arith, final), λ is. omega (arith, fi
 not_refused : (why : Refusal) (bytes more rest : List ℕ) (k g : ResponseHead) → IsNext (bytes ++ more) k g rest
     → RefusesAnswer why bytes → ⊥
 not_refused NotAHead bytes more rest k g x never = never (behind bytes more) g rest (answer_comes bytes more rest g x.reads)
-not_refused TooLong bytes more rest k g x (enough, none) =
+not_refused TooLong bytes more rest k g x (enough, none, unfinished) =
     let found = answer_in_front bytes more rest g (length g.fields) x.reads x.short enough in
     none g found.0 found.1
 not_refused TooManyFields bytes more rest k g x (many, exceeds) =
@@ -66,7 +67,7 @@ not_refused Status bytes more rest k g x (h, r, reads, low, few) =
 not_broken : (m : MethodKind) (bytes more rest : List ℕ) (k g : ResponseHead) (kind : BodyKind) → answer_kind m k ≡ Ok kind
     → IsNext (bytes ++ more) k g rest → BreaksAnswer m bytes → ⊥
 not_broken m bytes more rest k g kind framed x (inl (why, refused)) = not_refused why bytes more rest k g x refused
-not_broken m bytes more rest k g kind framed x (inr (h, (r, reads), why)) =
+not_broken m bytes more rest k g kind framed x (inr (h, (r, reads, short), why)) =
     let u = response_unique (bytes ++ more) h g (r ++ more) rest (ReadsResponse-append bytes h r more reads) x.reads in
     by_cause u.0 x.kind why
   where

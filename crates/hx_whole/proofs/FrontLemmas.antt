@@ -4,8 +4,7 @@ use Rattle.std.proofs.lemmas.List.{length-append, take-append-le, take-append-dr
 use Rattle.std.proofs.Math.Seq.{take-append-add}
 use Rattle.httparse.specs.Grammar.{RequestHead, ResponseHead, ReadsRequest, ReadsResponse, print_request, print_response}
 use Rattle.httparse.proofs.GrammarLemmas.{ReadsRequest-append, ReadsResponse-append}
-use Rattle.hx_head.specs.Heads.{head_limit}
-use Rattle.hx_head.specs.Limits.{IsShort}
+use Rattle.hx_message.specs.Limits.{head_limit, IsShort}
 use Rattle.hx_head.specs.Reads.{front}
 
 -- what follows the bytes among which a head is looked for

@@ -4,7 +4,8 @@ use Rattle.httparse.specs.Grammar.{ResponseHead, ReadsResponse, HasNoResponse}
 use Rattle.httparse.proofs.GrammarLemmas.{response_unique, ReadsResponse-append}
 use Rattle.hx_message.specs.Forwarded.{IsInterim, IsFinal, BeginsInterims}
 use Rattle.hx_message.proofs.Unique.{interim_final}
-use Rattle.hx_head.specs.Limits.{IsShort, BeginsShortInterims}
+use Rattle.hx_frame.proofs.EndLemmas.{interims_more, one_final_body}
+use Rattle.hx_message.specs.Limits.{IsShort, BeginsShortInterims}
 
 -- bytes are the heads, the final head g, and then body
 pub record HasFinal (bytes : List ℕ) (g : ResponseHead) (body : List ℕ) : Type 0 where
@@ -20,20 +21,6 @@ pub record IsNext (bytes : List ℕ) (k g : ResponseHead) (rest : List ℕ) : Ty
   pub short : IsShort bytes rest (length g.fields)
   pub kind : IsInterim g ⊎ (IsFinal g × (g ≡ k))
 
--- interim heads with more bytes behind them
-pub interims_more : (gs : List ResponseHead) (bytes rest more : List ℕ) → BeginsInterims bytes gs rest
-    → BeginsInterims (bytes ++ more) gs (rest ++ more)
-interims_more [] bytes rest more is = ap (λ (xs : List ℕ). xs ++ more) is
-interims_more (g ∷ gs) bytes rest more (middle, reads, interim, later) =
-    (middle ++ more, ReadsResponse-append bytes g middle more reads, interim, interims_more gs middle rest more later)
-
--- short interim heads are interim heads
-pub interims_of_short : (gs : List ResponseHead) (bytes rest : List ℕ) → BeginsShortInterims bytes gs rest
-    → BeginsInterims bytes gs rest
-interims_of_short [] bytes rest is = is
-interims_of_short (g ∷ gs) bytes rest (middle, reads, interim, short, later) =
-    (middle, reads, interim, interims_of_short gs middle rest later)
-
 -- where a final head stands, no interim one does
 interim_at_final : (bytes rest body middle : List ℕ) (g k : ResponseHead) → bytes ≡ rest → ReadsResponse rest g body → IsFinal g
     → ReadsResponse bytes k middle → IsInterim k → ⊥
@@ -42,22 +29,10 @@ interim_at_final bytes rest body middle g k is reads final reads' interim =
     interim_final k g (response_unique bytes k g middle body reads' at).0 interim final
 
 -- an answer has one final head, and its body begins at one place
-finals_go : (gs hs : List ResponseHead) (b rest rest' body body' : List ℕ) (g h : ResponseHead)
-    → BeginsInterims b gs rest → ReadsResponse rest g body → IsFinal g
-    → BeginsInterims b hs rest' → ReadsResponse rest' h body' → IsFinal h → (g ≡ h) × (body ≡ body')
-finals_go [] [] b rest rest' body body' g h x p f y p' f' =
-    response_unique b g h body body' (subst (λ (w : List ℕ). ReadsResponse w g body) (sym x) p)
-    (subst (λ (w : List ℕ). ReadsResponse w h body') (sym y) p')
-finals_go [] (k ∷ hs) b rest rest' body body' g h x p f (m, q, i, y) p' f' = absurd (interim_at_final b rest body m g k x p f q i)
-finals_go (k ∷ gs) [] b rest rest' body body' g h (m, q, i, x) p f y p' f' = absurd (interim_at_final b rest' body' m h k y p' f' q i)
-finals_go (k ∷ gs) (l ∷ hs) b rest rest' body body' g h (m, q, i, x) p f (n, q', i', y) p' f' =
-    let u = response_unique b k l m n q q' in
-    finals_go gs hs m rest rest' body body' g h x p f (subst (λ (w : List ℕ). BeginsInterims w hs rest') (sym u.1) y) p' f'
-
 pub one_final : (bytes body body' : List ℕ) (g h : ResponseHead) → HasFinal bytes g body → HasFinal bytes h body'
     → (g ≡ h) × (body ≡ body')
 one_final bytes body body' g h x y =
-    finals_go x.interims y.interims bytes x.rest y.rest body body' g h x.begins x.reads x.final y.begins y.reads y.final
+    one_final_body x.interims y.interims bytes x.rest y.rest body body' g h x.begins x.reads x.final y.begins y.reads y.final
 
 -- the final head with more bytes behind it
 pub final_more : (bytes body more : List ℕ) (g : ResponseHead) → HasFinal bytes g body → HasFinal (bytes ++ more) g (body ++ more)

@@ -11,7 +11,7 @@ use Rattle.hx_message.specs.Body.{kind_of_method, request_kind, wants_close, IsB
 use Rattle.hx_message.specs.Forwarded.{BeginsRequest}
 use Rattle.hx_message.specs.Message.{IsRequest, WantsClose}
 use Rattle.hx_message.specs.Partial.{HasWholeRequest}
-use Rattle.hx_head.specs.Limits.{IsShortRequest}
+use Rattle.hx_message.specs.Limits.{IsShortRequest}
 use Rattle.hx_frame.specs.Meters.{IsProperPart, NoBodyBegins}
 use Rattle.hx_frame.proofs.EndLemmas.{one_request_end}
 use Rattle.hx_session_parts.specs.declared.fault.AskFault.{AskFault}
@@ -36,19 +36,19 @@ pub requests_found : (bytes more : List ℕ) (m : MethodKind) (fault : AskFault)
     → IsShortRequest (bytes ++ more) → RefusesAsk fault bytes → ⊥
 requests_found bytes more m Bad (g, body, x, is) s (inl never) =
     never (behind bytes more) g body (request_comes bytes more body g x.begins.reads)
-requests_found bytes more m Bad (g, body, x, is) s (inr (h, fault, (rest, begins), faulty, other)) =
+requests_found bytes more m Bad (g, body, x, is) s (inr (h, fault, (rest, begins, short), faulty, other)) =
     let u = one_head bytes more rest body h g begins x.begins in
     no_fault (request_kind g) x.kind fault x.framed (ap request_kind (sym u.0) ∙ faulty)
-requests_found bytes more m TooLarge (g, body, x, is) (k, rest, begins, short) (inl (enough, none)) =
+requests_found bytes more m TooLarge (g, body, x, is) (k, rest, begins, short) (inl (enough, none, unfinished)) =
     let found = request_in_front bytes more rest k (length k.fields) begins.reads short enough in
     none k found.0 found.1
 requests_found bytes more m TooLarge (g, body, x, is) (k, rest, begins, short) (inr (many, exceeds)) =
     let over = many (behind bytes more) k rest (request_comes bytes more rest k begins.reads) in
     omega (arith, over, short.fields_few)
-requests_found bytes more m NotImplemented (g, body, x, is) s (h, (rest, begins), inl unknown) =
+requests_found bytes more m NotImplemented (g, body, x, is) s (h, (rest, begins, short), inl unknown) =
     let u = one_head bytes more rest body h g begins x.begins in
     no_fault (request_kind g) x.kind UnknownCoding x.framed (ap request_kind (sym u.0) ∙ unknown)
-requests_found bytes more m NotImplemented (g, body, x, is) s (h, (rest, begins), inr (kind, framed, connects)) =
+requests_found bytes more m NotImplemented (g, body, x, is) s (h, (rest, begins, short), inr (kind, framed, connects)) =
     let u = one_head bytes more rest body h g begins x.begins in
     x.method (ap (λ (k : RequestHead). kind_of_method k.method) (sym u.0) ∙ connects)
 requests_found bytes more m Version (g, body, x, is) s (h, rest, reads, old, few) =

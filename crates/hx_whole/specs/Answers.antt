@@ -9,7 +9,7 @@ use Rattle.hx_message.specs.Forwarded.{IsFinal, BeginsInterims}
 use Rattle.hx_message.specs.Message.{IsAnswer, IsAnswerWith, Persists, RunsToEnd}
 use Rattle.hx_frame.specs.Meters.{IsProperPart, NoBodyBegins}
 use Rattle.hx_session_parts.specs.Answers.{BreaksAnswer}
-use Rattle.hx_head.specs.Limits.{IsShortAnswer}
+use Rattle.hx_message.specs.Limits.{IsShortAnswer}
 
 -- behind interim heads no front of it is broken
 abbrev pub AnswersAreFound : Type 0
@@ -27,13 +27,14 @@ AnswersHaveHeads =
 abbrev pub AnswersEnd : Type 0
 AnswersEnd =
     (m : MethodKind) (taken rest body : List ℕ) (gs : List ResponseHead) (g : ResponseHead) (kind : BodyKind)
-    → IsAnswer m taken → BeginsInterims taken gs rest → ReadsResponse rest g body → IsFinal g → answer_kind m g ≡ Ok kind
-    → (kind ≡ ToEnd → ⊥) → IsProperPart kind body → ⊥
+    → IsAnswer m taken → BeginsInterims taken gs rest → ReadsResponse rest g body → IsFinal g
+    → answer_kind m g ≡ Ok kind → (kind ≡ ToEnd → ⊥) → IsProperPart kind body → ⊥
 
 -- no byte of it is one after which no body follows
 abbrev pub AnswersNeverBreak : Type 0
 AnswersNeverBreak =
-    (m : MethodKind) (taken later rest body : List ℕ) (next : ℕ) (gs : List ResponseHead) (g : ResponseHead) (kind : BodyKind)
+    (m : MethodKind) (taken later rest body : List ℕ) (next : ℕ) (gs : List ResponseHead) (g : ResponseHead)
+    (kind : BodyKind)
     → IsAnswer m (taken ++ next ∷ later) → BeginsInterims taken gs rest → ReadsResponse rest g body → IsFinal g
     → answer_kind m g ≡ Ok kind → NoBodyBegins kind (body ++ next ∷ []) → ⊥
 
@@ -52,6 +53,7 @@ AnswersTellEnd =
 -- the kind of its body, by the head of a front that has its final head, is that of the whole
 abbrev pub AnswersKeepKind : Type 0
 AnswersKeepKind =
-    (m : MethodKind) (taken later rest body : List ℕ) (gs : List ResponseHead) (g h : ResponseHead) (kind whole : BodyKind)
+    (m : MethodKind) (taken later rest body : List ℕ) (gs : List ResponseHead) (g h : ResponseHead)
+    (kind whole : BodyKind)
     → IsAnswerWith m (taken ++ later) h whole → BeginsInterims taken gs rest → ReadsResponse rest g body → IsFinal g
     → answer_kind m g ≡ Ok kind → (g ≡ h) × (kind ≡ whole)

@@ -9,13 +9,13 @@ use Rattle.hx_message.specs.Message.{IsRequest, WantsClose}
 use Rattle.hx_frame.specs.Meters.{IsProperPart, NoBodyBegins}
 use Rattle.hx_session_parts.specs.declared.fault.AskFault.{AskFault}
 use Rattle.hx_session_parts.specs.Asks.{RefusesAsk}
-use Rattle.hx_head.specs.Limits.{IsShortRequest}
+use Rattle.hx_message.specs.Limits.{IsShortRequest}
 
 -- no front of it is refused
 abbrev pub RequestsAreFound : Type 0
 RequestsAreFound =
-    (bytes more : List ℕ) (m : MethodKind) (fault : AskFault) → IsRequest (bytes ++ more) m → IsShortRequest (bytes ++ more)
-    → RefusesAsk fault bytes → ⊥
+    (bytes more : List ℕ) (m : MethodKind) (fault : AskFault) → IsRequest (bytes ++ more) m
+    → IsShortRequest (bytes ++ more) → RefusesAsk fault bytes → ⊥
 
 -- all of it has a head
 abbrev pub RequestsHaveHeads : Type 0

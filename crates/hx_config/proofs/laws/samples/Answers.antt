@@ -1,8 +1,8 @@
 use Rattle.std.proofs.Common.{refl}
-use Rattle.hx_config.specs.Addresses.{cut_at, server_address, bind_address}
-use Rattle.hx_config.specs.Lexical.{lines_of, words_of}
+use Rattle.hx_config_parts.specs.Addresses.{cut_at, server_address, bind_address}
+use Rattle.hx_config_parts.specs.Lexical.{lines_of, words_of}
 use Rattle.hx_config.specs.Meaning.{meaning_of, lines_read, finished, all_placed, all_served, place_from}
-use Rattle.hx_config.specs.Numbers.{value_from}
+use Rattle.hx_config_parts.specs.Numbers.{value_from}
 use Rattle.hx_config.specs.Options.{chosen_by}
 use Rattle.hx_config.specs.Samples.{usual_text}
 use Rattle.hx_config.specs.Statements.{line_read, said}

@@ -1,6 +1,6 @@
 use Rattle.std.proofs.Common.{List, ℕ, length, ap, ◌∙◌, arith}
 use Rattle.hx_config.specs.declared.reading.Reading.{Reading}
-use Rattle.hx_config.specs.Lexical.{lines_of}
+use Rattle.hx_config_parts.specs.Lexical.{lines_of}
 use Rattle.hx_config.specs.Meaning.{lines_read}
 use Rattle.hx_config.proofs.ReadLines.{one_line, halted, no_line, lines_few}
 use Rattle.hx_config.proofs.read.read_lines.Goals as goal

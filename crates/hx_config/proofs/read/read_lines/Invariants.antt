@@ -1,5 +1,5 @@
 use Rattle.std.proofs.Common.{◌≡◌, ◌+◌, ◌≤◌, length}
-use Rattle.hx_config.specs.Lexical.{lines_of}
+use Rattle.hx_config_parts.specs.Lexical.{lines_of}
 use Rattle.hx_config.specs.Meaning.{lines_read}
 use Rattle.hx_config.specs.Sections.{nothing_read}
 use Rattle.hx_config.proofs.read.read_lines.Given as goal

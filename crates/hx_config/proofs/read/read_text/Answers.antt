@@ -1,5 +1,5 @@
 use Rattle.std.proofs.Common.{sym, subst, ◌∙◌}
-use Rattle.hx_config.specs.Lexical.{lines_of}
+use Rattle.hx_config_parts.specs.Lexical.{lines_of}
 use Rattle.hx_config.specs.Sections.{closed}
 use Rattle.hx_config.specs.Sound.{IsSound}
 use Rattle.hx_config.proofs.Soundness.{text_sound, closed_sound, left_is}

@@ -22,4 +22,5 @@ returns-then-bytes-lt-HEAD_LIMIT-clause-cause c =
 pub returns-else-bytes-lt-HEAD_LIMIT-clause-cause : goal.returns-else-bytes-lt-HEAD_LIMIT-clause-cause
 returns-else-bytes-lt-HEAD_LIMIT-clause-cause c =
     let none : HasNoRequest c.front_of.result.now = search rules in
-    (TooLong, c.code-else-bytes-lt-HEAD_LIMIT.ensures, (c.if-bytes-lt-HEAD_LIMIT.false, subst HasNoRequest c.front_of.ensures.front none))
+    let unfinished : MayBecomeRequest c.front_of.result.now = search rules in
+    (TooLong, c.code-else-bytes-lt-HEAD_LIMIT.ensures, (c.if-bytes-lt-HEAD_LIMIT.false, subst HasNoRequest c.front_of.ensures.front none, subst MayBecomeRequest c.front_of.ensures.front unfinished))

@@ -1,5 +1,5 @@
 use Rattle.std.proofs.Common.{◌≡◌, ◌≤◌, ◌-◌, ◌+◌, max, length, []}
-use Rattle.hx_head.specs.Heads.{head_limit}
+use Rattle.hx_message.specs.Limits.{head_limit}
 use Rattle.hx_link.specs.Told.{most_bytes}
 use Rattle.hx_session_parts.specs.Asks.{most_text}
 use Rattle.hx_passage.specs.Requests.{standing, Standing}

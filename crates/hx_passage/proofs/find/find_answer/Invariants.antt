@@ -1,6 +1,6 @@
 use Rattle.std.proofs.Common.{◌≤◌, ◌-◌, max, length}
 use Rattle.hx_link.specs.Told.{most_bytes}
-use Rattle.hx_head.specs.Heads.{head_limit}
+use Rattle.hx_message.specs.Limits.{head_limit}
 use Rattle.hx_passage.specs.Moves.{TakesInto, IsSameExchange}
 use Rattle.hx_passage.proofs.find.find_answer.Given as goal
 

@@ -1,5 +1,5 @@
 use Rattle.std.proofs.Common.{◌≤◌, ◌-◌, length}
-use Rattle.hx_head.specs.Heads.{head_limit}
+use Rattle.hx_message.specs.Limits.{head_limit}
 use Rattle.hx_passage.specs.Moves.{TakesInto}
 use Rattle.hx_passage.proofs.find.find_ask.Given as goal
 

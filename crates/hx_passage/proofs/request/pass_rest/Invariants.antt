@@ -3,7 +3,7 @@ use Rattle.httparse.specs.Grammar.{RequestHead}
 use Rattle.hx_message.specs.declared.BodyKind.{BodyKind}
 use Rattle.hx_frame.specs.declared.progress.MeterState.TheVariants.{Bad}
 use Rattle.hx_frame.specs.Meters.{state_of}
-use Rattle.hx_head.specs.Heads.{head_limit}
+use Rattle.hx_message.specs.Limits.{head_limit}
 use Rattle.hx_link.specs.Told.{most_bytes}
 use Rattle.hx_passage.specs.Requests.{standing, Standing, AskStands}
 use Rattle.hx_passage.proofs.request.pass_rest.Given as goal

@@ -1,7 +1,8 @@
 use Rattle.std.proofs.Common.{◌≡◌, ◌+◌, ◌-◌, true, ℕ, drop, ap, sym, ◌∙◌, subst, arith}
 use Rattle.hx_base.specs.declared.numbers.Face.{Face}
 use Rattle.hx_plain.specs.declared.rest.Rest.{Rest}
-use Rattle.hx_plain.specs.Row.{rests_of, fits, NoneFits}
+use Rattle.hx_resting.specs.Row.{fits}
+use Rattle.hx_plain.specs.Row.{rests_of, NoneFits}
 use Rattle.hx_plain.proofs.Looks.{last_is}
 use Rattle.hx_plain.proofs.row.last_in.Goals as goal
 

@@ -1,8 +1,8 @@
 use Rattle.std.proofs.Common.{refl}
-use Rattle.hx_config.specs.Addresses.{cut_at, server_address, bind_address}
-use Rattle.hx_config.specs.Lexical as config_words
+use Rattle.hx_config_parts.specs.Addresses.{cut_at, server_address, bind_address}
+use Rattle.hx_config_parts.specs.Lexical as config_words
 use Rattle.hx_config.specs.Meaning as config
-use Rattle.hx_config.specs.Numbers.{value_from}
+use Rattle.hx_config_parts.specs.Numbers.{value_from}
 use Rattle.hx_config.specs.Options.{chosen_by}
 use Rattle.hx_config.specs.Statements as config_line
 use Rattle.hx_script_parts.specs.Lexical.{lines_of, behind}

@@ -1,0 +1,14 @@
+pub mod Owners
+pub mod Frame
+pub mod Moves
+pub mod Desking
+pub mod Draining
+pub mod Calls
+pub mod Taken
+pub mod OwnTakes
+pub mod Sweeps
+pub mod Rounds
+pub mod Overs
+pub mod Parks
+pub mod Boards
+pub mod Alike
