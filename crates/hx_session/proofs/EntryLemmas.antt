@@ -249,3 +249,21 @@ pub entry_all : (config : Meaning) (front : ℕ) (d : DeskNow) (s : StageNow) (s
 entry_all config front d s seats numbered sound going serves holds =
     let r = going.routed in
     entry_placed config front d s seats numbered sound going serves holds r.back (have_seats d.worker config.backs r.front.back r.back seats numbered r.back_is serves) r.goes
+
+-- a frontend's backend is there
+pub back_there : (fronts : List Front) (backs : List Back) (i : ℕ) (f : Front) → are_served fronts backs ≡ true → slice_get fronts i ≡ Some f → (b : Back) × (slice_get backs f.back ≡ Some b)
+back_there [] backs i f served there = cc
+back_there (x ∷ fronts) backs zero f served there =
+    let at : slice_get backs x.back ≡ slice_get backs f.back = ap (λ (y : Front). slice_get backs y.back) (some_same x f there) in
+    one_back (slice_get backs f.back) (subst (λ (o : Option Back). serves o ≡ true) at (and_left (serves (slice_get backs x.back)) (are_served fronts backs) served))
+  where
+    one_back : (o : Option Back) → serves o ≡ true → (b : Back) × (o ≡ Some b)
+    one_back None e = cc
+    one_back (Some b) e = (b, refl)
+back_there (x ∷ fronts) backs (suc i) f served there = back_there fronts backs i f (and_right (serves (slice_get backs x.back)) (are_served fronts backs) served) there
+
+-- what is read at a place is what is there
+pub read_at : {A : Type 0} (xs : List A) (i : ℕ) (x : A) → i < length xs → x ≡ get_or xs i x → slice_get xs i ≡ Some x
+read_at [] i x low is = absurd (omega (arith, low))
+read_at (y ∷ xs) zero x low is = ap Some (sym is)
+read_at (y ∷ xs) (suc i) x low is = read_at xs i x (omega (arith, low)) is
