@@ -10,7 +10,7 @@ use Rattle.hx_conn.specs.Conns.{RestedNow, BusyNow}
 use Rattle.hx_link.specs.Nets.{NetState}
 use Rattle.hx_message.specs.Message.{Persists}
 use Rattle.hx_pool.specs.SeatView.{History}
-use Rattle.hx_pool.specs.Wants.{ShowsRefusal}
+use Rattle.hx_pool.specs.Wants.{EndsRefused}
 use Rattle.hx_pool.specs.declared.entries.Note.{Note}
 use Rattle.hx_record.specs.declared.served.Carried.{Carried}
 use Rattle.hx_record.specs.declared.served.CutCause.{CutCause}
@@ -29,8 +29,8 @@ pub record Call : Type 0 where
   pub net_old : NetState
   pub net_new : NetState
   pub history : History
-  -- the call's own entries on the connection's server
-  pub added : List Note
+  -- the call's own entries on the connection's server before the close
+  pub before_close : List Note
   pub touch : Touch
   pub before : Option What
   pub after : Option What
@@ -65,7 +65,7 @@ MayNotRest c b p =
     (IsSomeAnd c.after (λ w. IfSome w.told (λ l. p.took.to < length l.taken)))
     ⊎ (IsSomeAnd c.after (λ w. IfSome w.told (λ l. ¬ Persists b.exchange.method (bytes_in l.taken p.took))))
     ⊎ (b.uses ≡ 65535)
-    ⊎ ShowsRefusal c.history c.added
+    ⊎ EndsRefused c.history c.old.number c.touch.id c.before_close
 
 -- the exchange that was under way was cut off or got an own answer, or one was decided for it
 abbrev pub IsCutNow : Call → Served → Type 0

@@ -13,7 +13,7 @@ use Rattle.hx_record.specs.declared.served.Kind.{Kind}
 use Rattle.hx_record.specs.declared.served.Kind.TheVariants as kind
 use Rattle.hx_session.specs.Doings.{Doing, AtServer}
 
--- the closing in a call, seen by the cause
+-- the closing in a call behind these entries of it, seen by the cause
 abbrev pub closing_call : Doing → History → List Note → Touch → Option What → Option What → Call
 closing_call d h es x before after = record {
   old = d.old;
@@ -21,7 +21,7 @@ closing_call d h es x before after = record {
   net_old = d.before.net;
   net_new = d.after.net;
   history = h;
-  added = es;
+  before_close = es;
   touch = x;
   before = before;
   after = after;
@@ -35,7 +35,7 @@ pub record TouchesOne (d : Doing) (x : Touch) : Type 0 where
   pub goes : LinkGoes d.old d.new at.history at.es d.before.net d.after.net x
   pub exchange : ExchangeGoes d.old d.new x x.went goes.before d.served
   pub passed : IfSome d.served (λ r. PassedEnds d.old x goes.after r.kind)
-  pub closes : ClosesForCause (λ n id before. ClosesFor (closing_call d at.history at.es x goes.before goes.after)) [] at.es
+  pub closes : ClosesForCause (λ n id before. ClosesFor (closing_call d at.history before x goes.before goes.after)) [] at.es
 
 -- a record that names no connection
 abbrev pub IsOwn : Kind → Type 0
