@@ -25,7 +25,7 @@ use Rattle.hx_session.proofs.EntryLemmas.{never_back}
 
 -- between its calls
 pub done_sound : (d : DeskNow) (s : StageNow) (seats : List History) (w : Waits) (left : Option Leave) → IsDone d s seats w left → IsSound d s
-done_sound d Left seats w left k = (k.0.tallied, k.0.session)
+done_sound d Left seats w left k = (k.0.tallied, k.0.session, k.0.no_loop)
 done_sound d (Reading held) seats w left k = (k.0.set.stands, k.0.good, k.0.set.numbered.counted)
 done_sound d (Choosing c) seats w left k = (k.0.set.stands, k.0.good, k.0.set.numbered.counted)
 done_sound d (Exchanging e) seats w left k = (k.0.set.stands, k.0.good, k.0.set.numbered.counted)

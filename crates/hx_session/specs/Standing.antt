@@ -168,7 +168,7 @@ pub record ComesTo (d : DeskNow) (s : StageNow) (seats : List History) (net : Ne
 
 -- what always holds of a session between its calls
 abbrev pub IsSound : DeskNow → StageNow → Type 0
-IsSound d Left = IsTallied d × (d.session.0 ≢ 0)
+IsSound d Left = IsTallied d × (d.session.0 ≢ 0) × (d.client.on_loop ≡ None)
 IsSound d (Reading held) = StandsSo d (Reading held) × IsGood (Reading held) × IsCounted d
 IsSound d (Choosing c) = StandsSo d (Choosing c) × IsGood (Choosing c) × IsCounted d
 IsSound d (Exchanging e) = StandsSo d (Exchanging e) × IsGood (Exchanging e) × IsCounted d

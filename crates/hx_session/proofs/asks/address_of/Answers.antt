@@ -7,5 +7,5 @@ there [] i low e = omega (arith, low)
 there (x ∷ xs) zero low e = cc
 there (x ∷ xs) (suc i) low e = there xs i (omega (arith, low)) e
 
-pub prove-unreachable-requires : goal.prove-unreachable-requires
-prove-unreachable-requires c = absurd (there _ c.args.server.0 c.requires c.in-None.ensures)
+pub unreachable-requires : goal.unreachable-requires
+unreachable-requires c = absurd (there _ c.args.server.0 c.requires c.in-None.ensures)
