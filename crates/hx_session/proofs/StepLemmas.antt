@@ -1,15 +1,17 @@
 -- What the parts of a step ask, from what a session and its worker keep between calls.
-use Rattle.std.proofs.Common.{◌≡◌, ◌≢◌, ◌≤◌, ◌<◌, ℕ, Bool, true, false, List, get_or, length, refl, sym, ap, subst, ◌∙◌, arith, Some}
+use Rattle.std.proofs.Common.{◌≡◌, ◌≢◌, ◌≤◌, ◌<◌, ℕ, Bool, true, false, List, get_or, length, refl, sym, ap, subst, ◌∙◌, arith, Some, None}
 use Rattle.std.specs.List.{slice_get}
+use Rattle.std.proofs.lemmas.List.{length-map}
 use Rattle.hx_config.specs.declared.parts.Back.{Back}
 use Rattle.hx_config.specs.declared.parts.Front.{Front}
 use Rattle.hx_config.specs.Limits.{IsWithin, all_servers}
 use Rattle.hx_config.specs.Meaning.{Meaning}
-use Rattle.hx_pool.specs.SeatView.{History}
+use Rattle.hx_pool.specs.SeatView.{About, History}
+use Rattle.hx_connecting.specs.Around.{abouts}
 use Rattle.hx_connecting.specs.Choice.{HaveSeats}
 use Rattle.hx_connecting.specs.Holds.{HoldsConn}
 use Rattle.hx_session.specs.Desks.{DeskNow}
-use Rattle.hx_session.specs.Stages.{StageNow}
+use Rattle.hx_session.specs.Stages.{StageNow, Reading, Choosing, Exchanging, Answering, Left}
 use Rattle.hx_session.specs.Seen.{conn_seen, chosen_seen, over_seen, session_seen}
 use Rattle.hx_session.specs.Standing.{IsSound, IsPlaced, IsRoutedTo}
 use Rattle.hx_session.specs.Fits.{SeatsServe, GoesTo, IsGoing, TurnsFit}
@@ -55,3 +57,15 @@ enters threads config front d s seats f b within front_is back_is sound going se
 -- the turn at a backend's place is one of its servers'
 pub turn_at : (config : Meaning) (turns : List ℕ) (i t : ℕ) (b : Back) → TurnsFit config turns → i < length turns → t ≡ get_or turns i t → slice_get config.backs i ≡ Some b → 1 ≤ length b.servers → t < length b.servers
 turn_at config turns i t b fit low is back some = turn_low (length b.servers) t (fit.each i t b (read_at turns i t low is) back) some
+
+-- a session that has left has no loop
+pub over_left : (d : DeskNow) (s : StageNow) → IsSound d s → over_seen s ≡ true → d.client.on_loop ≡ None
+over_left d Left sound e = sound.2
+over_left d (Reading held) sound e = cc
+over_left d (Choosing c) sound e = cc
+over_left d (Exchanging x) sound e = cc
+over_left d (Answering a) sound e = cc
+
+-- the seats are as many as they were
+pub abouts_count : (olds news : List History) → abouts news ≡ abouts olds → length news ≡ length olds
+abouts_count olds news e = sym (length-map news (λ h. h.about)) ∙ ap (λ (xs : List About). length xs) e ∙ length-map olds (λ h. h.about)
