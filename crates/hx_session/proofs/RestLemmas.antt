@@ -1,5 +1,6 @@
 -- A connection whose exchange passed may rest, and the session is between two requests.
 use Rattle.std.proofs.Common.{◌≡◌, ◌≢◌, ◌≤◌, ◌+◌, ◌-◌, ℕ, Bool, true, false, List, [], ◌∷◌, ◌++◌, length, take, drop, refl, sym, ap, subst, ◌∙◌, arith, Option, Some, None, ⊎_elim}
+use Rattle.std.specs.Prelude.{Contains}
 use Rattle.std.specs.List.{slice_get}
 use Rattle.std.proofs.lemmas.List.{length-append}
 use Rattle.httparse.specs.Ascii.{space}
@@ -8,6 +9,7 @@ use Rattle.hx_base.specs.declared.numbers.ServerNo.{ServerNo}
 use Rattle.hx_base.specs.declared.numbers.SessionNo.{SessionNo}
 use Rattle.hx_base.specs.declared.numbers.ThreadNo.{ThreadNo}
 use Rattle.hx_base.specs.declared.rules.Mode.TheVariants.{Never}
+use Rattle.hx_config.specs.declared.parts.Back.{Back}
 use Rattle.hx_conn.specs.Conns.{RestedNow, BusyNow}
 use Rattle.hx_link.specs.Nets.{NetState}
 use Rattle.hx_conn.specs.Steps.{rested_of, answer_ended}
@@ -20,6 +22,7 @@ use Rattle.hx_pool.specs.SeatView.{History, StandsInOneHistory}
 use Rattle.hx_pool.specs.Table.{face_of}
 use Rattle.hx_pool.proofs.Owning.{just_has}
 use Rattle.hx_connecting.specs.Around.{HasAround, resting}
+use Rattle.hx_connecting.specs.Choosing.{servers_of}
 use Rattle.hx_connecting.specs.Closing.{AtSeat, HasHeld}
 use Rattle.hx_connecting.specs.Sessions.{Exchanging}
 use Rattle.hx_connecting.specs.Settling.{MaySettle, RestsAs}
@@ -31,6 +34,7 @@ use Rattle.hx_session.specs.Exchanged.{ExchangeNow}
 use Rattle.hx_session.specs.Over.{IsOver, after_record}
 use Rattle.hx_session.specs.Stages.{IsBetween, Reading, Exchanging as Stage}
 use Rattle.hx_session.specs.Finishing.{RestsTo}
+use Rattle.hx_session.specs.Fits.{GoesTo}
 use Rattle.hx_session.specs.Standing.{IsCounted, IsPlaced, KeepsDesk}
 use Rattle.hx_session.proofs.PassedLemmas.{begins_anew, body_of}
 
@@ -172,3 +176,8 @@ rests_to olds news n b b' net net' (Some r) same k = ⊎_elim
   where
     some_none : (r : RestedNow) → Some r ≡ None → ⊥
     some_none r e = cc
+
+-- what rests goes to the server of the exchange
+pub rest_routed : (back : Back) (server : ServerNo) (q : Option RestedNow) → Contains (servers_of back) server → RestsTo server q → GoesTo back (resting q) None
+rest_routed back server None r to = record { to_conn = tt; to_chosen = tt }
+rest_routed back server (Some q) r to = record { to_conn = subst (λ (v : ServerNo). Contains (servers_of back) v) (sym to) r; to_chosen = tt }

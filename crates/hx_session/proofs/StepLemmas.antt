@@ -18,8 +18,8 @@ use Rattle.hx_session.specs.Fits.{SeatsServe, GoesTo, IsGoing, TurnsFit}
 use Rattle.hx_session.proofs.EntryLemmas.{entry_all, entry_routed, few_servers, have_seats, read_at, serves_length, some_server, turn_low}
 
 pub not_over : (b : Bool) → (b ≡ true → ⊥) → b ≡ false
-not_over true no = absurd (no refl)
-not_over false no = refl
+not_over true k = absurd (k refl)
+not_over false k = refl
 
 -- the frontend and the backend of the session's route are those at its places
 goes_there : (config : Meaning) (front : ℕ) (d : DeskNow) (s : StageNow) (f : Front) (b : Back) → slice_get config.fronts front ≡ Some f → slice_get config.backs f.back ≡ Some b

@@ -10,6 +10,7 @@ ghost use Rattle.hx_record.specs.declared.served.LeftCause.{LeftCause as Cause};
 ghost use Rattle.hx_session_parts.specs.Answers.{IsInterimAt, IsAnswerTo};
 ghost use Rattle.hx_session.specs.declared.exchange.AnswerWay.TheVariants.{Heads, Body};
 ghost use Rattle.hx_session.specs.Desks.{DeskNow, desk_now};
+ghost use Rattle.hx_session.specs.Ending.{HasOwnText};
 ghost use Rattle.hx_session.specs.Exchanged.{exchange_now};
 ghost use Rattle.hx_session.specs.Carried.{IsCarried};
 ghost use Rattle.hx_session.specs.Over.{IsOver, IsTold};
@@ -315,7 +316,7 @@ fn goes_on<L: Link>(exchange: Exchange<L>, waits: Waiting, moved: bool) -> Came<
 
 /// A fault of the server's side, which a 502 answers where nothing was given yet.
 fn bad_gateway(cause: CutCause, now: Millis, waits: Waiting) -> (CutCause, Own)
-    ensures { result.1.status ≡ 502 }
+    ensures { HasOwnText result.1.status }
 {
     (
         cause,
