@@ -2,8 +2,10 @@
 use Rattle.std.proofs.Common.{◌≡◌, ◌≢◌, ◌≤◌, ◌<◌, ℕ, Bool, true, false, List, get_or, length, refl, sym, ap, subst, ◌∙◌, arith, Some, None}
 use Rattle.std.specs.List.{slice_get}
 use Rattle.std.proofs.lemmas.List.{length-map}
+use Rattle.hx_base.specs.declared.numbers.ThreadNo.{ThreadNo}
 use Rattle.hx_config.specs.declared.parts.Back.{Back}
 use Rattle.hx_config.specs.declared.parts.Front.{Front}
+use Rattle.hx_config.specs.declared.parts.Server.{Server}
 use Rattle.hx_config.specs.Limits.{IsWithin, all_servers}
 use Rattle.hx_config.specs.Meaning.{Meaning}
 use Rattle.hx_pool.specs.SeatView.{About, History}
@@ -15,7 +17,7 @@ use Rattle.hx_session.specs.Stages.{StageNow, Reading, Choosing, Exchanging, Ans
 use Rattle.hx_session.specs.Seen.{conn_seen, chosen_seen, over_seen, session_seen}
 use Rattle.hx_session.specs.Standing.{IsSound, IsPlaced, IsRoutedTo}
 use Rattle.hx_session.specs.Fits.{SeatsServe, GoesTo, IsGoing, TurnsFit}
-use Rattle.hx_session.proofs.EntryLemmas.{entry_all, entry_routed, few_servers, have_seats, read_at, serves_length, some_server, turn_low}
+use Rattle.hx_session.proofs.EntryLemmas.{entry_all, entry_routed, few_servers, have_seats, read_at, serves_again, serves_length, some_server, turn_low}
 
 pub not_over : (b : Bool) → (b ≡ true → ⊥) → b ≡ false
 not_over true k = absurd (k refl)
@@ -69,3 +71,14 @@ over_left d (Answering a) sound e = cc
 -- the seats are as many as they were
 pub abouts_count : (olds news : List History) → abouts news ≡ abouts olds → length news ≡ length olds
 abouts_count olds news e = sym (length-map news (λ h. h.about)) ∙ ap (λ (xs : List About). length xs) e ∙ length-map olds (λ h. h.about)
+
+-- and they serve as they did
+pub serves_on : (t t' : ThreadNo) (olds news : List History) (ss : List Server) → t' ≡ t → abouts news ≡ abouts olds → SeatsServe t olds ss → SeatsServe t' news ss
+serves_on t t' olds news ss same e k = subst (λ (x : ThreadNo). SeatsServe x news ss) (sym same) (serves_again t olds news ss e k)
+
+-- where it isn't over
+pub goes_on_here : (b : Bool) → (b ≡ true → false ≡ true) → b ≡ false
+goes_on_here b k = not_over b (λ e. untrue (k e))
+  where
+    untrue : false ≡ true → ⊥
+    untrue e = cc

@@ -1,11 +1,14 @@
-use Rattle.std.proofs.Common.{◌≡◌, ℕ, List, map, sym, ap, ◌∙◌}
+use Rattle.std.proofs.Common.{◌≡◌, ℕ, List, length, map, sym, ap, subst, ◌∙◌}
+use Rattle.std.proofs.lemmas.List.{length-map}
 use Rattle.hx_base.specs.declared.numbers.ThreadNo.{ThreadNo}
 use Rattle.hx_link.specs.Nets.{NetState}
 use Rattle.hx_pool.specs.SeatView.{History}
+use Rattle.hx_connecting.specs.Choice.{HaveSeats}
 use Rattle.hx_session.specs.Desks.{desk_now, DeskNow}
 use Rattle.hx_session.specs.Standing.{KeepsPlace}
 use Rattle.hx_session.proofs.StandingLemmas.{place_then}
 use Rattle.hx_session.proofs.PartLemmas.{place_turn, over_then}
+use Rattle.hx_session.proofs.StepLemmas.{abouts_count}
 use Rattle.hx_session.proofs.phases.advance.Goals as goal
 
 pub do_phase-came-requires-clause-routed : goal.do_phase-came-requires-clause-routed
@@ -65,3 +68,21 @@ returns-clause-routed g c =
     let back = c.args.scene.back.now in
     c.conclude.ensures.routed back (c.move_from_server-came.ensures.routed back (c.move_from_client-came.ensures.routed back (c.do_phase-came.ensures.routed back
     (c.take_turn-came.ensures.routed (c.move_to_server-came.ensures.routed back (c.move_to_client-came.ensures.routed back (c.meet_deadline-came.ensures.goes.routed back c.requires.routed)))))))
+
+pub take_turn-came-requires-clause-seats : goal.take_turn-came-requires-clause-seats
+take_turn-came-requires-clause-seats g c =
+    let f = g.S.HasHistory.history in
+    let olds = c.args.seats.now in
+    let news = c.move_to_server-came.new.seats in
+    let about = c.move_to_server-came.ensures.keeps.about ∙ (c.move_to_client-came.ensures.keeps.about ∙ c.meet_deadline-came.ensures.goes.keeps.about) in
+    let count : length news ≡ length olds = sym (length-map news f) ∙ (abouts_count (map f olds) (map f news) about ∙ length-map olds f) in
+    subst (λ (n : ℕ). HaveSeats c.args.scene.back.now.servers n) (sym count) c.requires.seats
+
+pub do_phase-came-requires-clause-seats : goal.do_phase-came-requires-clause-seats
+do_phase-came-requires-clause-seats g c =
+    let f = g.S.HasHistory.history in
+    let olds = c.args.seats.now in
+    let news = c.take_turn-came.new.seats in
+    let about = c.take_turn-came.ensures.about ∙ (c.move_to_server-came.ensures.keeps.about ∙ (c.move_to_client-came.ensures.keeps.about ∙ c.meet_deadline-came.ensures.goes.keeps.about)) in
+    let count : length news ≡ length olds = sym (length-map news f) ∙ (abouts_count (map f olds) (map f news) about ∙ length-map olds f) in
+    subst (λ (n : ℕ). HaveSeats c.args.scene.back.now.servers n) (sym count) c.requires.seats
