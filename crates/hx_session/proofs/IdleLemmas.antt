@@ -15,8 +15,9 @@ use Rattle.hx_session.specs.Exchanged.{ExchangeNow}
 use Rattle.hx_session.specs.Stages.{StageNow, IsBetween, Reading, Exchanging}
 use Rattle.hx_session.specs.Still.{ReadWaited, WriteWaited, CannotRead}
 use Rattle.hx_session.specs.Standstill.{Stands, StandsWith, StandsIdle, ReadWaits, WriteWaits}
+use Rattle.hx_connecting.specs.Around.{resting}
 use Rattle.hx_connecting.specs.Sessions as seen
-use Rattle.hx_session.specs.Seen.{session_seen, held_seen}
+use Rattle.hx_session.specs.Seen.{session_seen}
 use Rattle.hx_session.specs.Waiting.{CannotReadServer, AnswerAtHand}
 
 -- a read that had to wait is one for which a session stands
@@ -44,26 +45,26 @@ reads_idle d0 d held now desk cannot few open_ = ⊎_elim
     (cannot tt)
 
 -- while a head is read: the client is waited for, and more of it is wanted
-pub stands_reading : (front since : ℕ) (d0 d : DeskNow) (s0 : StageNow) (held : Option RestedNow) (now : ℕ) → IsBetween d → CannotRead d0 d (Reading held) now
-    → AskLooks d.from.bytes ask.More → d.ended ≡ false → Stands (session_seen front since d0 s0) (session_seen front since d (Reading held)) now
-stands_reading front since d0 d s0 held now between cannot more open_ =
-    let idle : StandsIdle (session_seen front since d (Reading held)) now = record {
+pub stands_reading : (front : ℕ) (d0 d : DeskNow) (s0 : StageNow) (held : Option RestedNow) (now : ℕ) → IsBetween d → CannotRead d0 d (Reading held) now
+    → AskLooks d.from.bytes ask.More → d.ended ≡ false → Stands (session_seen front d0 s0) (session_seen front d (Reading held)) now
+stands_reading front d0 d s0 held now between cannot more open_ =
+    let idle : StandsIdle (session_seen front d (Reading held)) now = record {
       client = reads_idle d0 d held now between.anew.desk cannot more.0 open_;
       more = since_bytes (λ bytes. WantsMore bytes) d.client.taken d.client.taken_count d.ask_from d.from.bytes between.anew.taken more;
     } in
     inr (inr (record { own = refl }, by_held held idle))
   where
-    by_held : (h : Option RestedNow) → StandsIdle (session_seen front since d (Reading held)) now → StandsWith (session_seen front since d (Reading held)) (held_seen h) now
+    by_held : (h : Option RestedNow) → StandsIdle (session_seen front d (Reading held)) now → StandsWith (session_seen front d (Reading held)) (resting h) now
     by_held None i = i
     by_held (Some r) i = i
 
 -- a write to the client had to wait
-pub stands_giving : (front since : ℕ) (d0 d : DeskNow) (s0 s : StageNow) (now : ℕ) → WriteWaited d0.client d.client now → Stands (session_seen front since d0 s0) (session_seen front since d s) now
-stands_giving front since d0 d s0 s now w = inl (record { waits = w.0.1; at = w.1 })
+pub stands_giving : (front : ℕ) (d0 d : DeskNow) (s0 s : StageNow) (now : ℕ) → WriteWaited d0.client d.client now → Stands (session_seen front d0 s0) (session_seen front d s) now
+stands_giving front d0 d s0 s now w = inl (record { waits = w.0.1; at = w.1 })
 
 -- or to the server
-pub stands_sending : (front since : ℕ) (d0 d : DeskNow) (e f : ExchangeNow) (now : ℕ) → WriteWaited e.busy.link f.busy.link now → Stands (session_seen front since d0 (Exchanging e)) (session_seen front since d (Exchanging f)) now
-stands_sending front since d0 d e f now w = inr (inl (e.busy, f.busy, refl, refl, record { waits = w.0.1; at = w.1 }))
+pub stands_sending : (front : ℕ) (d0 d : DeskNow) (e f : ExchangeNow) (now : ℕ) → WriteWaited e.busy.link f.busy.link now → Stands (session_seen front d0 (Exchanging e)) (session_seen front d (Exchanging f)) now
+stands_sending front d0 d e f now w = inr (inl (e.busy, f.busy, refl, refl, record { waits = w.0.1; at = w.1 }))
 
 -- in an exchange with nothing of its answer at hand the server is waited for
 pub waits_server : (d : DeskNow) (e f : ExchangeNow) (now : ℕ) → IsDesk d → CannotReadServer d e f now → AnswerAtHand d f → f.ended ≡ false → ReadWaits f.busy.link now
