@@ -1,0 +1,12 @@
+pub mod SeatLemmas
+pub mod AroundLemmas
+pub mod AroundCalls
+pub mod ConnectLemmas
+pub mod ChoiceLemmas
+pub mod WantLemmas
+pub mod WayLemmas
+pub mod TouchLemmas
+pub mod EachLemmas
+pub mod ParkLemmas
+pub mod HoldLemmas
+pub mod BusyLemmas

@@ -1,0 +1,12 @@
+use Rattle.std.proofs.Common.{◌≡◌, map, get_or, refl, sym, ap}
+use Rattle.std.proofs.lemmas.List.{map-set}
+use Rattle.std.proofs.lemmas.Option.{slice_get-get_or}
+use Rattle.hx_connecting.proofs.SeatLemmas.{seat_here}
+use Rattle.hx_connecting.proofs.choice.ask_seat.Goals as goal
+
+pub returns-clause-asked : goal.returns-clause-asked
+returns-clause-asked g c =
+    let f = g.S.HasHistory.history in
+    let seats = c.args.seats.now in
+    let i = c.args.server.now.no.0 in
+    (f (get_or seats i c.index-seats-server.result), f c.ready.new.self, _, seat_here f seats i c.index-seats-server.result c.requires, c.ready.ensures.answer, map-set f seats i c.ready.new.self, refl)

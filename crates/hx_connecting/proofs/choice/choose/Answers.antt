@@ -1,0 +1,28 @@
+use Rattle.std.proofs.Common.{◌≡◌, ◌<◌, ◌≤◌, ℕ, length, map, sym, ap, subst, ◌∙◌, arith}
+use Rattle.std.proofs.Common.{◌+◌}
+use Rattle.std.proofs.lemmas.List.{length-map}
+use Rattle.hx_connecting.specs.Choice.{ChoosesReady, next_turn}
+use Rattle.hx_connecting.proofs.ChoiceLemmas.{IsAsking, asks_on, chooses_now, at_inside}
+use Rattle.hx_connecting.proofs.choice.choose.Goals as goal
+
+pub returns-then-ask_seat : goal.returns-then-ask_seat
+returns-then-ask_seat g c =
+    let f = g.S.HasHistory.history in
+    let servers = c.args.servers.now in
+    let i = c.loop-count.invariant.0 in
+    let inside = at_inside (length servers) c.args.turn.now c.loop-count.count c.loop-count.at c.requires.turn c.loop-count-test.true i.at_is in
+    subst (λ (n : ℕ). ChoosesReady servers c.args.turn.now n (map f c.args.seats.now) (map f c.ask_seat.new.seats) c.index-servers-at.result.no) (sym c.after-next.ensures)
+    (chooses_now servers c.args.turn.now c.loop-count.turn (map f c.args.seats.now) (map f c.loop-count.seats) (map f c.ask_seat.new.seats) c.loop-count.at c.loop-count.count c.index-servers-at.result
+    c.requires.turn c.loop-count-test.true inside c.index-servers-at.is i c.if-ask_seat.ensures.asked)
+
+pub loop-count-preserved : goal.loop-count-preserved
+loop-count-preserved g c =
+    let f = g.S.HasHistory.history in
+    let servers = c.args.servers.now in
+    let i = c.loop-count.invariant.0 in
+    let sizes : length (map f c.ask_seat.new.seats) ≡ length (map f c.loop-count.seats) = length-map c.ask_seat.new.seats f ∙ c.ask_seat.ensures.count ∙ sym (length-map c.loop-count.seats f) in (
+      subst (λ (n : ℕ). IsAsking servers c.args.turn.now c.loop-count.turn (map f c.args.seats.now) (map f c.ask_seat.new.seats) n (c.loop-count.count + 1)) (sym c.after-next.ensures)
+          (asks_on servers c.args.turn.now c.loop-count.turn (map f c.args.seats.now) (map f c.loop-count.seats) (map f c.ask_seat.new.seats) c.loop-count.at c.loop-count.count c.index-servers-at.result
+          c.requires.turn c.loop-count-test.true c.index-servers-at.is i c.if-ask_seat.ensures.asked sizes),
+      c.ask_seat.ensures.count ∙ c.loop-count.invariant.1,
+    )

@@ -1,0 +1,6 @@
+use Rattle.std.proofs.Common.{◌≡◌, ◌<◌, length, map, ℕ, ◌≤◌}
+use Rattle.hx_connecting.proofs.ChoiceLemmas.{IsAsking}
+use Rattle.hx_connecting.proofs.choice.choose.Given as goal
+
+abbrev pub invariant-loop-count : goal.invariant-loop-count
+invariant-loop-count g l = IsAsking l.servers l.fn.turn l.turn (map g.S.HasHistory.history l.fn.seats) (map g.S.HasHistory.history l.seats) l.at l.count × (length l.seats ≡ length l.fn.seats)

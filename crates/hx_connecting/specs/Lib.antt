@@ -1,0 +1,15 @@
+pub mod Sessions
+pub mod Touches
+pub mod Links
+pub mod Exchanges
+pub mod Closings
+pub mod Choosing
+pub mod Holds
+pub mod Journals
+pub mod Choice
+pub mod Connecting
+pub mod Closing
+pub mod Around
+pub mod Settling
+pub mod Touched
+pub mod Wanted

@@ -1,0 +1,108 @@
+-- What a step of a session leaves to its worker.
+use Rattle.std.proofs.Common.{◌≡◌, ◌≢◌, ◌<◌, ℕ, zero, suc, Bool, true, false, eqb, List, [], ◌∷◌, length, refl, sym, ap, subst, ◌∙◌, inl, inr, arith, Option, Some, None, ⊎_elim, ◌⊎◌}
+use Rattle.std.specs.Prelude.{IfSome, Contains, ⊤}
+use Rattle.std.specs.List.{slice_get, slice_set}
+use Rattle.hx_base.specs.declared.numbers.ServerNo.{ServerNo}
+use Rattle.hx_config.specs.declared.parts.Back.{Back}
+use Rattle.hx_config.specs.declared.parts.Front.{Front}
+use Rattle.hx_config.specs.Limits.{all_servers}
+use Rattle.hx_config.specs.Meaning.{Meaning}
+use Rattle.hx_conn.specs.Conns.{RestedNow}
+use Rattle.hx_link.specs.Told.{LinkState}
+use Rattle.hx_pool.specs.SeatView.{History}
+use Rattle.hx_record.specs.declared.served.Left.{Left as Leave}
+use Rattle.hx_connecting.specs.Around.{HasAround, resting}
+use Rattle.hx_connecting.specs.Choosing.{servers_of}
+use Rattle.hx_connecting.specs.Holds.{HoldsConn}
+use Rattle.hx_session.specs.declared.step.Waits.{Waits}
+use Rattle.hx_session.specs.declared.step.Waits.TheVariants as waits
+use Rattle.hx_session.specs.Desks.{DeskNow}
+use Rattle.hx_session.specs.Fits.{SeatsServe, RestsUnderNever, GoesTo, IsRouted, IsGoing, TurnsFit}
+use Rattle.hx_session.specs.Seen.{conn_seen, chosen_seen, unless_held, over_seen, session_seen}
+use Rattle.hx_session.specs.Stages.{StageNow, Reading, Choosing, Exchanging, Answering, Left}
+use Rattle.hx_session.specs.Standing.{IsSound, IsPlaced, IsRoutedTo, IsDone, server_of}
+use Rattle.hx_session.proofs.EntryLemmas.{never_back}
+
+-- between its calls
+pub done_sound : (d : DeskNow) (s : StageNow) (seats : List History) (w : Waits) (left : Option Leave) → IsDone d s seats w left → IsSound d s
+done_sound d Left seats w left k = (k.0.tallied, k.0.session, k.0.no_loop)
+done_sound d (Reading held) seats w left k = (k.0.set.stands, k.0.good, k.0.set.numbered.counted)
+done_sound d (Choosing c) seats w left k = (k.0.set.stands, k.0.good, k.0.set.numbered.counted)
+done_sound d (Exchanging e) seats w left k = (k.0.set.stands, k.0.good, k.0.set.numbered.counted)
+done_sound d (Answering a) seats w left k = (k.0.set.stands, k.0.good, k.0.set.numbered.counted)
+
+pub done_holds : (d : DeskNow) (s : StageNow) (seats : List History) (w : Waits) (left : Option Leave) → IsDone d s seats w left → HoldsConn d.worker d.session (conn_seen s) 0 seats
+done_holds d Left seats w left k = k.0.around.holds
+done_holds d (Reading held) seats w left k = k.0.set.around.holds
+done_holds d (Choosing c) seats w left k = k.0.set.around.holds
+done_holds d (Exchanging e) seats w left k = k.0.set.around.holds
+done_holds d (Answering a) seats w left k = k.0.set.around.holds
+
+pub done_ended : (d : DeskNow) (s : StageNow) (seats : List History) (w : Waits) (left : Option Leave) → IsDone d s seats w left
+    → (w ≡ waits.Ended → over_seen s ≡ true) × (over_seen s ≡ true → w ≡ waits.Ended)
+done_ended d Left seats w left k = (λ e. refl, λ e. k.1)
+done_ended d (Reading held) seats w left k = (λ e. absurd (k.1 e), λ e. cc)
+done_ended d (Choosing c) seats w left k = (λ e. absurd (k.1 e), λ e. cc)
+done_ended d (Exchanging x) seats w left k = (λ e. absurd (k.1 e), λ e. cc)
+done_ended d (Answering a) seats w left k = (λ e. absurd (k.1 e), λ e. cc)
+
+pub done_left : (d : DeskNow) (s : StageNow) (seats : List History) (w : Waits) (left : Option Leave) → IsDone d s seats w left → over_seen s ≡ true → d.client.on_loop ≡ None
+done_left d Left seats w left k e = k.0.no_loop
+done_left d (Reading held) seats w left k e = cc
+done_left d (Choosing c) seats w left k e = cc
+done_left d (Exchanging x) seats w left k e = cc
+done_left d (Answering a) seats w left k e = cc
+
+-- the server that was chosen, as the worker sees it
+exit_goes : (b : Back) (s : StageNow) → IsRoutedTo b s → GoesTo b (conn_seen s) (chosen_seen s)
+exit_goes b (Reading held) r = r
+exit_goes b (Choosing c) r = record { to_conn = r.to_conn; to_chosen = by_held c.held c.server r.to_chosen }
+  where
+    by_held : (held : Option RestedNow) (v : Option ServerNo) → IfSome v (λ x. Contains (servers_of b) x) → IfSome (unless_held held v) (λ x. Contains (servers_of b) x)
+    by_held None v g = g
+    by_held (Some r) v g = tt
+exit_goes b (Exchanging e) r = record { to_conn = r.to_conn; to_chosen = tt }
+exit_goes b (Answering a) r = record { to_conn = r.to_conn; to_chosen = tt }
+exit_goes b Left r = record { to_conn = tt; to_chosen = tt }
+
+exit_going : (config : Meaning) (front : ℕ) (d : DeskNow) (s : StageNow) (seats : List History) (f : Front) (b : Back) → slice_get config.fronts front ≡ Some f → slice_get config.backs f.back ≡ Some b
+    → over_seen s ≡ false → IsPlaced d s seats → IsRoutedTo b s → SeatsServe d.worker seats (all_servers config.backs) → IsGoing config (session_seen front d s)
+exit_going config front d s seats f b front_is back_is going p r serves = record {
+  going = going;
+  routed = record { front = f; front_is = front_is; back = b; back_is = back_is; goes = exit_goes b s r };
+  never = never_back d.worker config (conn_seen s) seats serves p.set.around.never;
+  loops = record { client = p.set.numbered.on_loop; conn = p.set.around.loop };
+}
+
+pub done_going : (config : Meaning) (front : ℕ) (d : DeskNow) (s : StageNow) (seats : List History) (w : Waits) (left : Option Leave) (f : Front) (b : Back) → slice_get config.fronts front ≡ Some f
+    → slice_get config.backs f.back ≡ Some b → IsDone d s seats w left → IsRoutedTo b s → SeatsServe d.worker seats (all_servers config.backs) → over_seen s ≡ false → IsGoing config (session_seen front d s)
+done_going config front d Left seats w left f b front_is back_is k r serves e = cc
+done_going config front d (Reading held) seats w left f b front_is back_is k r serves e = exit_going config front d (Reading held) seats f b front_is back_is e k.0 r serves
+done_going config front d (Choosing c) seats w left f b front_is back_is k r serves e = exit_going config front d (Choosing c) seats f b front_is back_is e k.0 r serves
+done_going config front d (Exchanging x) seats w left f b front_is back_is k r serves e = exit_going config front d (Exchanging x) seats f b front_is back_is e k.0 r serves
+done_going config front d (Answering a) seats w left f b front_is back_is k r serves e = exit_going config front d (Answering a) seats f b front_is back_is e k.0 r serves
+
+-- one turn changed
+set_cases : (turns : List ℕ) (i k t new : ℕ) → slice_get (slice_set turns i new) k ≡ Some t → ((k ≡ i) × (t ≡ new)) ⊎ (slice_get turns k ≡ Some t)
+set_cases [] i k t new e = cc
+set_cases (x ∷ turns) zero zero t new e = inl (refl, cc)
+set_cases (x ∷ turns) zero (suc k) t new e = inr e
+set_cases (x ∷ turns) (suc i) zero t new e = inr e
+set_cases (x ∷ turns) (suc i) (suc k) t new e = ⊎_elim (λ h. inl (ap suc h.0, h.1)) (λ h. inr h) (set_cases turns i k t new e)
+
+set_length : (turns : List ℕ) (i new : ℕ) → length (slice_set turns i new) ≡ length turns
+set_length [] i new = refl
+set_length (x ∷ turns) zero new = omega arith
+set_length (x ∷ turns) (suc i) new = omega (arith, set_length turns i new)
+
+pub turns_set : (config : Meaning) (turns : List ℕ) (i new : ℕ) (b : Back) → TurnsFit config turns → slice_get config.backs i ≡ Some b → new < length b.servers → TurnsFit config (slice_set turns i new)
+turns_set config turns i new b fit there low = record {
+  count = set_length turns i new ∙ fit.count;
+  each = λ k t c at back. ⊎_elim
+      (λ h. inl (subst (λ (x : ℕ). x < length c.servers) (sym h.1) (subst (λ (y : Back). new < length y.servers) (some_same b c (sym there ∙ (ap (slice_get config.backs) (sym h.0) ∙ back))) low)))
+      (λ h. fit.each k t c h back)
+      (set_cases turns i k t new at);
+}
+  where
+    some_same : (x y : Back) → Some x ≡ Some y → x ≡ y
+    some_same x y e = cc

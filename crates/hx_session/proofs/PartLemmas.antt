@@ -1,0 +1,127 @@
+-- A part of a step behind another, and behind a call of a link.
+use Rattle.std.proofs.Common.{◌≡◌, ◌≤◌, ◌+◌, ℕ, Bool, List, [], refl, sym, ap, subst, ◌∙◌, arith, Option, Some, None}
+use Rattle.std.specs.Prelude.{IfSome, Contains, ⊤}
+use Rattle.hx_base.specs.declared.numbers.ServerNo.{ServerNo}
+use Rattle.hx_base.specs.declared.numbers.SessionNo.{SessionNo}
+use Rattle.hx_base.specs.declared.numbers.ThreadNo.{ThreadNo}
+use Rattle.hx_config.specs.declared.parts.Back.{Back}
+use Rattle.hx_conn.specs.Conns.{RestedNow}
+use Rattle.hx_link.specs.Nets.{NetState}
+use Rattle.hx_pool.specs.SeatView.{History}
+use Rattle.hx_record.specs.declared.served.Served.{Served}
+use Rattle.hx_connecting.specs.Around.{HasAround, abouts, resting}
+use Rattle.hx_connecting.specs.Choosing.{servers_of}
+use Rattle.hx_connecting.specs.Closing.{HasHeld}
+use Rattle.hx_connecting.specs.Sessions as seen
+use Rattle.hx_session.specs.declared.stage.Came.{Came}
+use Rattle.hx_session.specs.declared.stage.Came.TheVariants.{On, Moved, Ends}
+use Rattle.hx_session.specs.declared.stage.Stage.{Stage}
+use Rattle.hx_session.specs.declared.step.Waiting.{Waiting}
+use Rattle.hx_session.specs.Carried.{IsCarried}
+use Rattle.hx_session.specs.declared.moves.Move.{Move}
+use Rattle.hx_session.specs.Moves.{GivesClient, ReadsClient}
+use Rattle.hx_session.specs.Still.{WantsClient}
+use Rattle.hx_session.proofs.ReadLemmas.{gives_keep, gives_stand, reads_keep, reads_stand}
+use Rattle.hx_session.specs.Desks.{DeskNow, IsDesk}
+use Rattle.hx_session.specs.Ending.{HasOwn, AnswersOwn, GaveNothing}
+use Rattle.hx_session.specs.Exchanged.{ExchangeNow}
+use Rattle.hx_session.specs.Fits.{GoesTo}
+use Rattle.hx_session.specs.Seen.{conn_seen}
+use Rattle.hx_session.specs.Stages.{StageNow, Reading, Choosing, Exchanging, Answering, Left, StandsSo, IsBetween, own_stage, stage_now}
+use Rattle.hx_session.specs.Standing.{CamePlaced, CameRouted, Goes, ComesTo, IsNumbered, IsSet, IsPlaced, KeepsDesk, KeepsAsk, KeepsPlace, KeepsOver, IsSameConn, IsRoutedTo, server_of}
+use Rattle.hx_session.proofs.StandingLemmas.{place_in, place_then, desk_none, answers_keep, answers_set, placed_on, set_on}
+
+-- the same stage at a desk whose client's link made a call
+pub set_desk : (d d' : DeskNow) (s : StageNow) (seats : List History) → IsSet d s seats → KeepsAsk d d' → StandsSo d' s → IsSet d' s seats
+set_desk d d' s seats p k stands =
+    let n = p.numbered.counted in
+    record {
+      stands = stands;
+      numbered = record {
+        counted = record {
+          session = λ z. n.session (sym (ap (λ (m : SessionNo). m.0) k.desk.who.session) ∙ z);
+          one = omega (arith, k.number, n.one);
+          few = omega (arith, k.number, k.ask_from, n.few);
+          ordered = omega (arith, k.ask_from, k.taken, n.ordered);
+        };
+        on_loop = k.desk.on_loop ∙ (p.numbered.on_loop ∙ ap (λ (t : ThreadNo). Some t.0) (sym k.desk.who.worker));
+      };
+      around = subst (λ (t : ThreadNo). HasAround t d'.session (conn_seen s) seats) (sym k.desk.who.worker)
+          (subst (λ (m : SessionNo). HasAround d.worker m (conn_seen s) seats) (sym k.desk.who.session) p.around);
+      own = subst (λ (m : SessionNo). HasOwn seats m s) (sym k.desk.who.session) p.own;
+    }
+
+pub placed_desk : (d d' : DeskNow) (s : StageNow) (seats : List History) → IsPlaced d s seats → KeepsAsk d d' → StandsSo d' s → IsPlaced d' s seats
+placed_desk d d' s seats p k stands = record { set = set_desk d d' s seats p.set k stands; good = p.good }
+
+-- a part that goes on from a desk whose client's link made a call
+pub goes_from_desk : {X : Type 0} (d d' d2 : DeskNow) (s : StageNow) (seats seats' : List History) (net net' : NetState) (c : Came X) → KeepsDesk d d' → Goes d' s seats net d2 c seats' net' → Goes d s seats net d2 c seats' net'
+goes_from_desk d d' d2 s seats seats' net net' c k g = record {
+  placed = g.placed;
+  keeps = place_then d d' d2 seats seats seats' net net net' (place_in d d' seats net k) g.keeps;
+  routed = g.routed;
+}
+
+-- a part after which the step goes on, or is over, at the same stage
+pub goes_same : {X : Type 0} (d d' : DeskNow) (stage : Stage X) (seats : List History) (net : NetState) (c : Came X) → KeepsDesk d d' → (IsPlaced d' (stage_now stage) seats → CamePlaced d' c seats)
+    → ((back : Back) → IsRoutedTo back (stage_now stage) → CameRouted back c) → IsPlaced d' (stage_now stage) seats → Goes d (stage_now stage) seats net d' c seats net
+goes_same d d' stage seats net c k placed routed p = record { placed = placed p; keeps = place_in d d' seats net k; routed = routed }
+
+-- the connection's server stays
+pub conn_routed : (back : Back) (e e' : ExchangeNow) → IsSameConn e e' → IsRoutedTo back (Exchanging e) → IsRoutedTo back (Exchanging e')
+conn_routed back e e' k r = record { to_conn = subst (λ (v : ServerNo). Contains (servers_of back) v) (sym k.server) r.to_conn; to_chosen = tt }
+
+-- a part that goes on from an exchange that went on
+pub goes_from_exchange : {X : Type 0} (d d' d2 : DeskNow) (e e' : ExchangeNow) (seats seats' : List History) (net net' : NetState) (c : Came X) → KeepsAsk d d' → IsSameConn e e'
+    → Goes d' (Exchanging e') seats net d2 c seats' net' → Goes d (Exchanging e) seats net d2 c seats' net'
+goes_from_exchange d d' d2 e e' seats seats' net net' c k same g = record {
+  placed = g.placed;
+  keeps = place_then d d' d2 seats seats seats' net net net' (place_in d d' seats net k.desk) g.keeps;
+  routed = λ back r. g.routed back (conn_routed back e e' same r);
+}
+
+-- an exchange that went on, after which the step goes on or is over
+pub went_on : {X : Type 0} (d d' : DeskNow) (e e' : ExchangeNow) (seats : List History) (net : NetState) (c : Came X) → IsPlaced d (Exchanging e) seats → KeepsAsk d d' → IsSameConn e e' → IsCarried d' e'
+    → e'.busy.exchange.failed ≡ e.busy.exchange.failed → (IsPlaced d' (Exchanging e') seats → CamePlaced d' c seats) → ((back : Back) → IsRoutedTo back (Exchanging e') → CameRouted back c)
+    → Goes d (Exchanging e) seats net d' c seats net
+went_on d d' e e' seats net c p k same carried failed placed routed = record {
+  placed = placed (placed_on d d' e e' seats p k same carried failed);
+  keeps = place_in d d' seats net k.desk;
+  routed = λ back r. routed back (conn_routed back e e' same r);
+}
+
+-- an own answer is decided outside of an exchange
+pub goes_answering : {X : Type 0} (d d' : DeskNow) (s : StageNow) (status : ℕ) (held : Option RestedNow) (seats : List History) (net : NetState) (stage : Stage X) (w : Waiting) (served : Option Served)
+    → conn_seen s ≡ resting held → IsBetween d → IsNumbered d → HasAround d.worker d.session (resting held) seats → HasHeld seats d.session held
+    → stage_now stage ≡ own_stage status held → AnswersOwn d d' status → Goes d s seats net d' (Moved stage w served) seats net
+goes_answering d d' s status held seats net stage w served conn between numbered around own is a = record {
+  placed = subst (λ (x : StageNow). IsPlaced d' x seats) (sym is) (answers_set d d' status held seats a between.anew.desk between.anew.given numbered around own);
+  keeps = place_in d d' seats net (answers_keep d d' status a);
+  routed = λ back r. subst (λ (x : StageNow). IsRoutedTo back x) (sym is) (record {
+    to_conn = subst (λ (c : Option seen.Holding). IfSome c (λ x. Contains (servers_of back) (seen.conn_server x))) conn r.to_conn;
+    to_chosen = tt;
+  });
+}
+
+-- a part that comes to another stage, and ends the step
+pub goes_to : {X : Type 0} (d d' : DeskNow) (s : StageNow) (seats seats' : List History) (net net' : NetState) (stage : Stage X) (w : Waiting) (served : Option Served)
+    → ComesTo d s seats net d' (stage_now stage) seats' net' → Goes d s seats net d' (Moved stage w served) seats' net'
+goes_to d d' s seats seats' net net' stage w served c = record { placed = c.placed; keeps = c.keeps; routed = c.routed }
+
+-- a stage after a call that gives, and after a read of the client
+pub gave_placed : (d d' : DeskNow) (s : StageNow) (now : ℕ) (m : Move) (seats : List History) → IsDesk d' → GivesClient d d' now m → IsPlaced d s seats → IsPlaced d' s seats
+gave_placed d d' s now m seats desk g p = placed_desk d d' s seats p (gives_keep d d' now m g) (gives_stand d d' s now m desk g p.set.stands)
+
+pub took_placed : (d d' : DeskNow) (s : StageNow) (now : ℕ) (m : Move) (seats : List History) → IsDesk d' → ReadsClient d d' now m → WantsClient s → IsPlaced d s seats → IsPlaced d' s seats
+took_placed d d' s now m seats desk g wants p = placed_desk d d' s seats p (reads_keep d d' now m g) (reads_stand d d' s now m desk g wants p.set.stands)
+
+-- a step behind its parts
+pub place_turn : (a b : DeskNow) (xs ys zs : List History) (x y : NetState) → KeepsPlace a b xs ys x y → abouts zs ≡ abouts ys → KeepsPlace a b xs zs x y
+place_turn a b xs ys zs x y k e = record { desk = k.desk; about = e ∙ k.about; loop_no = k.loop_no }
+
+pub over_then : (a b c : DeskNow) (xs ys zs : List History) (x y z : NetState) → KeepsPlace a b xs ys x y → KeepsOver b c ys zs y z → KeepsOver a c xs zs x z
+over_then a b c xs ys zs x y z k l = record {
+  who = record { worker = l.who.worker ∙ k.desk.who.worker; session = l.who.session ∙ k.desk.who.session; since = l.who.since ∙ k.desk.who.since };
+  about = l.about ∙ k.about;
+  loop_no = l.loop_no ∙ k.loop_no;
+}

@@ -1,0 +1,29 @@
+use Rattle.std.proofs.Common.{◌≡◌, List, map}
+use Rattle.hx_link.specs.Nets.{NetState}
+use Rattle.hx_pool.specs.SeatView.{History}
+use Rattle.hx_session.specs.Desks.{desk_now, DeskNow}
+use Rattle.hx_session.specs.Exchanged.{exchange_now, ExchangeNow}
+use Rattle.hx_session.proofs.PartLemmas.{went_on}
+use Rattle.hx_session.proofs.answers.go_on.Goals as goal
+
+pub returns-in-PassAsk : goal.returns-in-PassAsk
+returns-in-PassAsk g c =
+    let d : DeskNow = desk_now g.L.Link.state c.args.desk.now in
+    let d2 : DeskNow = desk_now g.L.Link.state c.pass_ask.new.desk in
+    let e : ExchangeNow = exchange_now c.args.exchange in
+    let e2 : ExchangeNow = exchange_now c.pass_ask.new.exchange in
+    let seats : List History = map g.S.HasHistory.history c.args.seats.now in
+    let net : NetState = g.N.Net.state c.args.net.now in
+    let p = c.pass_ask.ensures in
+    record { goes = went_on d d2 e e2 seats net c.goes_on.result c.requires.placed p.keeps p.conn p.carried p.good (c.goes_on.ensures.placed d2 seats) c.goes_on.ensures.routed }
+
+pub returns-in-PassAnswer : goal.returns-in-PassAnswer
+returns-in-PassAnswer g c =
+    let d : DeskNow = desk_now g.L.Link.state c.args.desk.now in
+    let d2 : DeskNow = desk_now g.L.Link.state c.pass_answer.new.desk in
+    let e : ExchangeNow = exchange_now c.args.exchange in
+    let e2 : ExchangeNow = exchange_now c.pass_answer.new.exchange in
+    let seats : List History = map g.S.HasHistory.history c.args.seats.now in
+    let net : NetState = g.N.Net.state c.args.net.now in
+    let p = c.pass_answer.ensures in
+    record { goes = went_on d d2 e e2 seats net c.goes_on-in-PassAnswer.result c.requires.placed p.keeps p.conn p.carried p.good (c.goes_on-in-PassAnswer.ensures.placed d2 seats) c.goes_on-in-PassAnswer.ensures.routed }

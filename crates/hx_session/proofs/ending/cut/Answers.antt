@@ -1,0 +1,32 @@
+use Rattle.std.proofs.Common.{◌≡◌, List, map, refl, sym, ap, subst}
+use Rattle.hx_pool.specs.SeatView.{History}
+use Rattle.hx_session.specs.Stages.{Exchanging as Stage}
+use Rattle.hx_session.proofs.StandingLemmas.{goes_ends, cut_keeps, cut_leaves}
+use Rattle.hx_session.specs.Desks.{desk_now, DeskNow}
+use Rattle.hx_session.specs.Exchanged.{exchange_now, ExchangeNow}
+use Rattle.hx_session.specs.declared.stage.Came.{Came}
+use Rattle.hx_session.specs.Ending.{EndsInCut}
+use Rattle.hx_session.proofs.ending.cut.Goals as goal
+
+pub returns-clause-ends : goal.returns-clause-ends
+returns-clause-ends g c =
+    let d : DeskNow = desk_now g.L.Link.state c.args.desk.now in
+    let mid : DeskNow = desk_now g.L.Link.state c.cut_off-served.new.desk in
+    let e = c.drop_waiting.ensures in
+    subst (λ (x : Came g.row.L.Denot). EndsInCut d (desk_now g.L.Link.state c.drop_waiting.new.self) (exchange_now c.args.exchange) c.args.cause x) (sym c.leave_after.ensures)
+    (refl, refl, (c.cut_off-served.result, mid, refl, c.cut_off-served.ensures.cuts, ap (λ (x : DeskNow). x.client) e, ap (λ (x : DeskNow). x.ask_from) e, ap (λ (x : DeskNow). x.gave_from) e))
+
+pub returns-clause-goes : goal.returns-clause-goes
+returns-clause-goes g c =
+    let f = g.S.HasHistory.history in
+    let d : DeskNow = desk_now g.L.Link.state c.args.desk.now in
+    let d1 : DeskNow = desk_now g.L.Link.state c.cut_off-served.new.desk in
+    let d2 : DeskNow = desk_now g.L.Link.state c.drop_waiting.new.self in
+    let e : ExchangeNow = exchange_now c.args.exchange in
+    let olds : List History = map f c.args.seats.now in
+    let news : List History = map f c.cut_off-served.new.seats in
+    let k = c.cut_off-served.ensures in
+    let is = c.drop_waiting.ensures in
+    goes_ends d d2 (Stage e) olds news (g.N.Net.state c.args.net.now) (g.N.Net.state c.cut_off-served.new.net) c.leave_after.result _ c.leave_after.ensures
+    (record { desk = cut_keeps d d1 d2 e c.args.cause c.cut_off-served.result k.cuts is; about = k.about; loop_no = k.loop_ })
+    (cut_leaves d d1 d2 e c.args.cause c.cut_off-served.result olds news k.cuts is c.requires.set (k.around d.worker c.requires.set.around))

@@ -1,0 +1,27 @@
+use Rattle.std.proofs.Common.{◌≡◌, ◌≤◌, ℕ, List, map, sym, subst, arith, None}
+use Rattle.hx_conn.specs.Conns.{RestedNow}
+use Rattle.hx_pool.specs.SeatView.{History}
+use Rattle.hx_session.specs.Desks.{desk_now, DeskNow}
+use Rattle.hx_session.specs.Stages.{StageNow}
+use Rattle.hx_session.specs.Standing.{IsPlaced, IsRoutedTo}
+use Rattle.hx_session.proofs.StandingLemmas.{answers_keep, answers_set, gave_none}
+use Rattle.hx_session.proofs.ending.give_up.Goals as goal
+
+pub returns : goal.returns
+returns g c =
+    let f = g.S.HasHistory.history in
+    let d : DeskNow = desk_now g.L.Link.state c.args.desk.now in
+    let d2 : DeskNow = desk_now g.L.Link.state c.answer-stage.new.desk in
+    let news : List History = map f c.close_busy.new.seats in
+    let set = c.requires.set in
+    let st = set.stands in
+    let a = c.answer-stage.ensures.answers in
+    let gave = gave_none d.client.sent d.client.sent_count d.gave_from st.answer.gave (omega (arith, c.requires.nothing, st.desk.given)) st.answer.gives in
+    record {
+      goes = record {
+        placed = subst (λ (s : StageNow). IsPlaced d2 s news) (sym c.answer-stage.ensures.stage)
+            (answers_set d d2 c.args.own.status None news a st.desk gave set.numbered (c.close_busy.ensures.around d.worker set.around) tt);
+        keeps = record { desk = answers_keep d d2 c.args.own.status a; about = c.close_busy.ensures.abouts; loop_no = c.close_busy.ensures.loop_ };
+        routed = λ back r. subst (λ (s : StageNow). IsRoutedTo back s) (sym c.answer-stage.ensures.stage) (record { to_conn = tt; to_chosen = tt });
+      };
+    }

@@ -1,0 +1,24 @@
+use Rattle.std.proofs.Common.{◌≤◌, ◌+◌, List, arith}
+use Rattle.hx_session.specs.Desks.{desk_now, DeskNow}
+use Rattle.hx_session.specs.Stages.{own_stage}
+use Rattle.hx_session.proofs.StandingLemmas.{goes_ends, own_leaves, own_keeps, place_in}
+use Rattle.hx_session.proofs.ending.leave_answering.Goals as goal
+
+pub tell_own-served-requires : goal.tell_own-served-requires
+tell_own-served-requires g c = record {
+  few = c.requires.counted.few;
+  within = omega (arith, c.requires.counted.ordered, c.requires.stands.desk.few_taken);
+}
+
+pub returns : goal.returns
+returns g c = record {
+  goes = λ seats net p.
+      let d : DeskNow = desk_now g.L.Link.state c.args.desk.now in
+      let d1 : DeskNow = desk_now g.L.Link.state c.tell_own-served.new.desk in
+      let d2 : DeskNow = desk_now g.L.Link.state c.drop_waiting.new.self in
+      let status = c.args.answering.status in
+      let held = c.args.answering.held in
+      goes_ends d d2 (own_stage status held) seats seats net net c.leave_after.result _ c.leave_after.ensures
+      (place_in d d2 seats net (own_keeps d d1 d2 c.tell_own-served.ensures.next c.drop_waiting.ensures))
+      (own_leaves d d1 d2 status held seats c.tell_own-served.ensures.next c.drop_waiting.ensures p);
+}

@@ -1,0 +1,88 @@
+use Rattle.std.proofs.Common.{◌≡◌, ℕ, List, length, map, sym, ap, subst, ◌∙◌}
+use Rattle.std.proofs.lemmas.List.{length-map}
+use Rattle.hx_base.specs.declared.numbers.ThreadNo.{ThreadNo}
+use Rattle.hx_link.specs.Nets.{NetState}
+use Rattle.hx_pool.specs.SeatView.{History}
+use Rattle.hx_connecting.specs.Choice.{HaveSeats}
+use Rattle.hx_session.specs.Desks.{desk_now, DeskNow}
+use Rattle.hx_session.specs.Standing.{KeepsPlace}
+use Rattle.hx_session.proofs.StandingLemmas.{place_then}
+use Rattle.hx_session.proofs.PartLemmas.{place_turn, over_then}
+use Rattle.hx_session.proofs.StepLemmas.{abouts_count}
+use Rattle.hx_session.proofs.phases.advance.Goals as goal
+
+pub do_phase-came-requires-clause-routed : goal.do_phase-came-requires-clause-routed
+do_phase-came-requires-clause-routed g c =
+    let back = c.args.scene.back.now in
+    c.take_turn-came.ensures.routed (c.move_to_server-came.ensures.routed back (c.move_to_client-came.ensures.routed back (c.meet_deadline-came.ensures.goes.routed back c.requires.routed)))
+
+pub do_phase-came-requires-clause-placed : goal.do_phase-came-requires-clause-placed
+do_phase-came-requires-clause-placed g c = c.take_turn-came.ensures.placed (desk_now g.L.Link.state c.move_to_server-came.new.desk) c.move_to_server-came.ensures.placed
+
+pub do_phase-came-requires-clause-loop_ : goal.do_phase-came-requires-clause-loop_
+do_phase-came-requires-clause-loop_ g c =
+    let a = c.meet_deadline-came.ensures.goes.keeps in
+    let b = c.move_to_client-came.ensures.keeps in
+    let e = c.move_to_server-came.ensures.keeps in
+    e.loop_no ∙ (b.loop_no ∙ (a.loop_no ∙ (c.requires.loop_ ∙ ap (λ (t : ThreadNo). t.0) (sym (e.desk.who.worker ∙ (b.desk.who.worker ∙ a.desk.who.worker))))))
+
+pub returns-clause-keeps : goal.returns-clause-keeps
+returns-clause-keeps g c =
+    let f = g.S.HasHistory.history in
+    let n = g.N.Net.state in
+    let d0 : DeskNow = desk_now g.L.Link.state c.args.desk.now in
+    let d1 : DeskNow = desk_now g.L.Link.state c.meet_deadline-came.new.desk in
+    let d2 : DeskNow = desk_now g.L.Link.state c.move_to_client-came.new.desk in
+    let d3 : DeskNow = desk_now g.L.Link.state c.move_to_server-came.new.desk in
+    let d5 : DeskNow = desk_now g.L.Link.state c.do_phase-came.new.desk in
+    let d6 : DeskNow = desk_now g.L.Link.state c.move_from_client-came.new.desk in
+    let d7 : DeskNow = desk_now g.L.Link.state c.move_from_server-came.new.desk in
+    let d8 : DeskNow = desk_now g.L.Link.state c.conclude.new.desk in
+    let s0 : List History = map f c.args.seats.now in
+    let s1 : List History = map f c.meet_deadline-came.new.seats in
+    let s2 : List History = map f c.move_to_client-came.new.seats in
+    let s3 : List History = map f c.move_to_server-came.new.seats in
+    let s4 : List History = map f c.take_turn-came.new.seats in
+    let s5 : List History = map f c.do_phase-came.new.seats in
+    let s6 : List History = map f c.move_from_client-came.new.seats in
+    let s7 : List History = map f c.move_from_server-came.new.seats in
+    let s8 : List History = map f c.conclude.new.seats in
+    let n0 : NetState = n c.args.net.now in
+    let n1 : NetState = n c.meet_deadline-came.new.net in
+    let n2 : NetState = n c.move_to_client-came.new.net in
+    let n3 : NetState = n c.move_to_server-came.new.net in
+    let n5 : NetState = n c.do_phase-came.new.net in
+    let n6 : NetState = n c.move_from_client-came.new.net in
+    let n7 : NetState = n c.move_from_server-came.new.net in
+    let n8 : NetState = n c.conclude.new.net in
+    let k2 : KeepsPlace d0 d2 s0 s2 n0 n2 = place_then d0 d1 d2 s0 s1 s2 n0 n1 n2 c.meet_deadline-came.ensures.goes.keeps c.move_to_client-came.ensures.keeps in
+    let k3 : KeepsPlace d0 d3 s0 s3 n0 n3 = place_then d0 d2 d3 s0 s2 s3 n0 n2 n3 k2 c.move_to_server-came.ensures.keeps in
+    let k4 : KeepsPlace d0 d3 s0 s4 n0 n3 = place_turn d0 d3 s0 s3 s4 n0 n3 k3 c.take_turn-came.ensures.about in
+    let k5 : KeepsPlace d0 d5 s0 s5 n0 n5 = place_then d0 d3 d5 s0 s4 s5 n0 n3 n5 k4 c.do_phase-came.ensures.keeps in
+    let k6 : KeepsPlace d0 d6 s0 s6 n0 n6 = place_then d0 d5 d6 s0 s5 s6 n0 n5 n6 k5 c.move_from_client-came.ensures.keeps in
+    let k7 : KeepsPlace d0 d7 s0 s7 n0 n7 = place_then d0 d6 d7 s0 s6 s7 n0 n6 n7 k6 c.move_from_server-came.ensures.keeps in
+    over_then d0 d7 d8 s0 s7 s8 n0 n7 n8 k7 c.conclude.ensures.keeps
+
+pub returns-clause-routed : goal.returns-clause-routed
+returns-clause-routed g c =
+    let back = c.args.scene.back.now in
+    c.conclude.ensures.routed back (c.move_from_server-came.ensures.routed back (c.move_from_client-came.ensures.routed back (c.do_phase-came.ensures.routed back
+    (c.take_turn-came.ensures.routed (c.move_to_server-came.ensures.routed back (c.move_to_client-came.ensures.routed back (c.meet_deadline-came.ensures.goes.routed back c.requires.routed)))))))
+
+pub take_turn-came-requires-clause-seats : goal.take_turn-came-requires-clause-seats
+take_turn-came-requires-clause-seats g c =
+    let f = g.S.HasHistory.history in
+    let olds = c.args.seats.now in
+    let news = c.move_to_server-came.new.seats in
+    let about = c.move_to_server-came.ensures.keeps.about ∙ (c.move_to_client-came.ensures.keeps.about ∙ c.meet_deadline-came.ensures.goes.keeps.about) in
+    let count : length news ≡ length olds = sym (length-map news f) ∙ (abouts_count (map f olds) (map f news) about ∙ length-map olds f) in
+    subst (λ (n : ℕ). HaveSeats c.args.scene.back.now.servers n) (sym count) c.requires.seats
+
+pub do_phase-came-requires-clause-seats : goal.do_phase-came-requires-clause-seats
+do_phase-came-requires-clause-seats g c =
+    let f = g.S.HasHistory.history in
+    let olds = c.args.seats.now in
+    let news = c.take_turn-came.new.seats in
+    let about = c.take_turn-came.ensures.about ∙ (c.move_to_server-came.ensures.keeps.about ∙ (c.move_to_client-came.ensures.keeps.about ∙ c.meet_deadline-came.ensures.goes.keeps.about)) in
+    let count : length news ≡ length olds = sym (length-map news f) ∙ (abouts_count (map f olds) (map f news) about ∙ length-map olds f) in
+    subst (λ (n : ℕ). HaveSeats c.args.scene.back.now.servers n) (sym count) c.requires.seats

@@ -1,0 +1,88 @@
+use Rattle.std.proofs.Common.{◌≡◌, List, map, sym, subst}
+use Rattle.hx_pool.specs.SeatView.{History}
+use Rattle.hx_session.specs.Desks.{desk_now, DeskNow}
+use Rattle.hx_session.specs.Stages.{stage_now}
+use Rattle.hx_session.proofs.StandingLemmas.{place_in}
+use Rattle.hx_session.proofs.PartLemmas.{gave_placed, goes_from_desk}
+use Rattle.hx_session.proofs.ReadLemmas.{gives_keep}
+use Rattle.hx_session.proofs.phases.give_some.Goals as goal
+
+pub returns-in-Bytes : goal.returns-in-Bytes
+returns-in-Bytes g c =
+    let d : DeskNow = desk_now g.L.Link.state c.args.desk.now in
+    let d2 : DeskNow = desk_now g.L.Link.state c.give.new.desk in
+    let seats : List History = map g.S.HasHistory.history c.args.seats.now in
+    let net = g.N.Net.state c.args.net.now in
+    let m = c.give.result in
+    record {
+      goes = record {
+        placed = gave_placed d d2 (stage_now c.args.stage) c.args.at.now.0 m seats c.give.ensures.desk c.give.ensures.gives c.requires.placed;
+        keeps = place_in d d2 seats net (gives_keep d d2 c.args.at.now.0 m c.give.ensures.gives).desk;
+        routed = λ back r. r;
+      };
+    }
+
+pub returns-in-Ended : goal.returns-in-Ended
+returns-in-Ended g c =
+    let d : DeskNow = desk_now g.L.Link.state c.args.desk.now in
+    let d2 : DeskNow = desk_now g.L.Link.state c.give.new.desk in
+    let seats : List History = map g.S.HasHistory.history c.args.seats.now in
+    let net = g.N.Net.state c.args.net.now in
+    let m = c.give.result in
+    record {
+      goes = record {
+        placed = gave_placed d d2 (stage_now c.args.stage) c.args.at.now.0 m seats c.give.ensures.desk c.give.ensures.gives c.requires.placed;
+        keeps = place_in d d2 seats net (gives_keep d d2 c.args.at.now.0 m c.give.ensures.gives).desk;
+        routed = λ back r. r;
+      };
+    }
+
+pub returns-in-Idle : goal.returns-in-Idle
+returns-in-Idle g c =
+    let d : DeskNow = desk_now g.L.Link.state c.args.desk.now in
+    let d2 : DeskNow = desk_now g.L.Link.state c.give.new.desk in
+    let seats : List History = map g.S.HasHistory.history c.args.seats.now in
+    let net = g.N.Net.state c.args.net.now in
+    let m = c.give.result in
+    record {
+      goes = record {
+        placed = gave_placed d d2 (stage_now c.args.stage) c.args.at.now.0 m seats c.give.ensures.desk c.give.ensures.gives c.requires.placed;
+        keeps = place_in d d2 seats net (gives_keep d d2 c.args.at.now.0 m c.give.ensures.gives).desk;
+        routed = λ back r. r;
+      };
+    }
+
+pub returns-in-Waits : goal.returns-in-Waits
+returns-in-Waits g c =
+    let d : DeskNow = desk_now g.L.Link.state c.args.desk.now in
+    let d2 : DeskNow = desk_now g.L.Link.state c.give.new.desk in
+    let seats : List History = map g.S.HasHistory.history c.args.seats.now in
+    let net = g.N.Net.state c.args.net.now in
+    let m = c.give.result in
+    record {
+      goes = record {
+        placed = gave_placed d d2 (stage_now c.args.stage) c.args.at.now.0 m seats c.give.ensures.desk c.give.ensures.gives c.requires.placed;
+        keeps = place_in d d2 seats net (gives_keep d d2 c.args.at.now.0 m c.give.ensures.gives).desk;
+        routed = λ back r. r;
+      };
+    }
+
+pub leave_or_cut-requires : goal.leave_or_cut-requires
+leave_or_cut-requires g c =
+    let d : DeskNow = desk_now g.L.Link.state c.args.desk.now in
+    let d2 : DeskNow = desk_now g.L.Link.state c.give.new.desk in
+    let seats : List History = map g.S.HasHistory.history c.args.seats.now in
+    record { placed = gave_placed d d2 (stage_now c.args.stage) c.args.at.now.0 c.give.result seats c.give.ensures.desk c.give.ensures.gives c.requires.placed }
+
+pub returns-in-Failed : goal.returns-in-Failed
+returns-in-Failed g c =
+    let f = g.S.HasHistory.history in
+    let d : DeskNow = desk_now g.L.Link.state c.args.desk.now in
+    let d2 : DeskNow = desk_now g.L.Link.state c.give.new.desk in
+    let d3 : DeskNow = desk_now g.L.Link.state c.leave_or_cut.new.desk in
+    let olds : List History = map f c.args.seats.now in
+    let news : List History = map f c.leave_or_cut.new.seats in
+    record {
+      goes = goes_from_desk d d2 d3 (stage_now c.args.stage) olds news (g.N.Net.state c.args.net.now) (g.N.Net.state c.leave_or_cut.new.net) c.leave_or_cut.result
+          (gives_keep d d2 c.args.at.now.0 c.give.result c.give.ensures.gives).desk c.leave_or_cut.ensures.goes;
+    }

@@ -1,0 +1,32 @@
+use Rattle.std.proofs.Common.{◌≡◌, List, map}
+use Rattle.hx_link.specs.Nets.{NetState}
+use Rattle.hx_pool.specs.SeatView.{History}
+use Rattle.hx_session.specs.Desks.{desk_now, DeskNow}
+use Rattle.hx_session.specs.Exchanged.{exchange_now, ExchangeNow}
+use Rattle.hx_session.proofs.PartLemmas.{goes_from_exchange}
+use Rattle.hx_session.proofs.StandingLemmas.{set_on}
+use Rattle.hx_session.proofs.phases.send_some.Goals as goal
+
+pub after_server_move-requires-clause-set : goal.after_server_move-requires-clause-set
+after_server_move-requires-clause-set g c =
+    let d : DeskNow = desk_now g.L.Link.state c.args.desk.now in
+    let d2 : DeskNow = desk_now g.L.Link.state c.send-sent.new.desk in
+    let e : ExchangeNow = exchange_now c.args.exchange in
+    let e2 : ExchangeNow = exchange_now c.send-sent.new.exchange in
+    let r = c.send-sent.ensures in
+    set_on d d2 e e2 (map g.S.HasHistory.history c.args.seats.now) c.requires.placed.set r.keeps r.conn r.carried
+
+pub returns : goal.returns
+returns g c =
+    let f = g.S.HasHistory.history in
+    let d : DeskNow = desk_now g.L.Link.state c.args.desk.now in
+    let d2 : DeskNow = desk_now g.L.Link.state c.send-sent.new.desk in
+    let d3 : DeskNow = desk_now g.L.Link.state c.after_server_move.new.desk in
+    let e : ExchangeNow = exchange_now c.args.exchange in
+    let e2 : ExchangeNow = exchange_now c.send-sent.new.exchange in
+    let olds : List History = map f c.args.seats.now in
+    let news : List History = map f c.after_server_move.new.seats in
+    let net : NetState = g.N.Net.state c.args.net.now in
+    let net2 : NetState = g.N.Net.state c.after_server_move.new.net in
+    let r = c.send-sent.ensures in
+    record { goes = goes_from_exchange d d2 d3 e e2 olds news net net2 c.after_server_move.result r.keeps r.conn c.after_server_move.ensures.goes }

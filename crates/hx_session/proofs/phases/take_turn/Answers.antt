@@ -1,0 +1,32 @@
+use Rattle.std.proofs.Common.{◌≡◌, List, map, subst}
+use Rattle.hx_pool.specs.SeatView.{History}
+use Rattle.hx_session.specs.declared.stage.Came.{Came}
+use Rattle.hx_session.specs.Stages.{stage_now}
+use Rattle.hx_session.specs.Standing.{CamePlaced, CameRouted}
+use Rattle.hx_session.proofs.GateLemmas.{in_placed, in_abouts, in_routed, in_turn_below}
+use Rattle.hx_session.proofs.phases.take_turn.Goals as goal
+
+pub returns-clause-placed : goal.returns-clause-placed
+returns-clause-placed g c = λ d p.
+    let f = g.S.HasHistory.history in
+    let olds : List History = map f c.args.seats.now in
+    let news : List History = map f c.choose_server.new.seats in
+    in_placed d c.args.back.now.servers c.args.turn.now c.choose_server.new.turn olds news (stage_now c.in-On.stage) (stage_now c.choose_server.result) c.choose_server.ensures.chooses
+    (subst (λ (x : Came g.row.L.Denot). CamePlaced d x olds) c.in-On.is p)
+
+pub returns-clause-about : goal.returns-clause-about
+returns-clause-about g c =
+    let f = g.S.HasHistory.history in
+    in_abouts c.args.back.now.servers c.args.turn.now c.choose_server.new.turn (map f c.args.seats.now) (map f c.choose_server.new.seats) (stage_now c.in-On.stage) (stage_now c.choose_server.result) c.choose_server.ensures.chooses
+
+pub returns-clause-routed : goal.returns-clause-routed
+returns-clause-routed g c = λ r.
+    let f = g.S.HasHistory.history in
+    in_routed c.args.back.now c.args.turn.now c.choose_server.new.turn (map f c.args.seats.now) (map f c.choose_server.new.seats) (stage_now c.in-On.stage) (stage_now c.choose_server.result) c.choose_server.ensures.chooses
+    (subst (λ (x : Came g.row.L.Denot). CameRouted c.args.back.now x) c.in-On.is r)
+
+pub returns-clause-turn : goal.returns-clause-turn
+returns-clause-turn g c =
+    let f = g.S.HasHistory.history in
+    in_turn_below c.args.back.now.servers c.args.turn.now c.choose_server.new.turn (map f c.args.seats.now) (map f c.choose_server.new.seats) (stage_now c.in-On.stage) (stage_now c.choose_server.result) c.choose_server.ensures.chooses
+    c.requires.turn

@@ -1,0 +1,66 @@
+use Rattle.std.proofs.Common.{◌≡◌, ◌∙◌, ℕ, List, length, map, refl, sym, ap, subst}
+use Rattle.std.proofs.lemmas.List.{length-map}
+use Rattle.hx_base.specs.declared.numbers.ThreadNo.{ThreadNo}
+use Rattle.hx_config.specs.declared.parts.Back.{Back}
+use Rattle.hx_config.specs.Limits.{all_servers}
+use Rattle.hx_config.specs.Views.{meaning}
+use Rattle.hx_pool.specs.SeatView.{History}
+use Rattle.hx_connecting.specs.Choice.{HaveSeats}
+use Rattle.hx_connecting.specs.Holds.{HoldsAt}
+use Rattle.hx_connecting.specs.Sessions.{SessionNow}
+use Rattle.hx_session.specs.Desks.{desk_now, DeskNow}
+use Rattle.hx_session.specs.Fits.{IsGoing, SeatsServe}
+use Rattle.hx_session.specs.Stages.{StageNow, stage_now}
+use Rattle.hx_session.proofs.ExitLemmas.{done_going}
+use Rattle.hx_session.proofs.StepLemmas.{Enters, enters, goes_on_here, serves_on}
+use Rattle.hx_session.proofs.session.Session.step.Goals as goal
+
+pub advance-stage-requires : goal.advance-stage-requires
+advance-stage-requires g c =
+    let f = g.S.HasHistory.history in
+    let d : DeskNow = desk_now g.L.Link.state c.self.inside.desk in
+    let s : StageNow = stage_now c.self.inside.stage in
+    let seats : List History = map f c.args.seats.now in
+    let config = c.args.config.now in
+    let scene = c.scene_of-scene.result in
+    let b : Back = scene.back.now in
+    let same = sym c.self.view_is in
+    let going = subst (λ (x : SessionNow). IsGoing (meaning config) x) same (c.requires.going (goes_on_here c.args.self.now.over (λ e. c.if-is_over.ensures.1 e))) in
+    let serves = subst (λ (x : SessionNow). SeatsServe x.worker seats (all_servers config.backs)) same c.requires.seats in
+    let holds = subst (λ (x : SessionNow). HoldsAt x 0 seats) same c.requires.holds in
+    let e : Enters b (length (all_servers config.backs)) d s seats =
+        enters config.threads (meaning config) c.self.inside.front d s seats scene.front.now b config.within c.scene_of-scene.ensures.front c.scene_of-scene.ensures.back c.self.invariant going serves holds in
+    let count = length-map c.args.seats.now f in
+    record {
+      few = e.few;
+      turn = ?;
+      seats = subst (λ (n : ℕ). HaveSeats b.servers n) count e.have;
+      servers = sym count ∙ e.all;
+      placed = e.placed;
+      routed = e.routed;
+      loop_ = c.requires.net ∙ ap (λ (x : SessionNow). x.worker.0) same;
+    }
+
+pub returns-clause-turns : goal.returns-clause-turns
+returns-clause-turns g c = ?
+
+pub returns-clause-going : goal.returns-clause-going
+returns-clause-going g c =
+    let f = g.S.HasHistory.history in
+    let d : DeskNow = desk_now g.L.Link.state c.self.inside.desk in
+    let d2 : DeskNow = desk_now g.L.Link.state c.advance-stage.new.desk in
+    let olds : List History = map f c.args.seats.now in
+    let news : List History = map f c.advance-stage.new.seats in
+    let config = c.args.config.now in
+    let done = c.advance-stage.result in
+    let keeps = c.advance-stage.ensures.keeps in
+    let serves = subst (λ (x : SessionNow). SeatsServe x.worker olds (all_servers config.backs)) (sym c.self.view_is) c.requires.seats in
+    done_going (meaning config) c.self.inside.front d2 (stage_now done.stage) news done.waits done.left c.scene_of-scene.result.front.now c.scene_of-scene.result.back.now
+        c.scene_of-scene.ensures.front c.scene_of-scene.ensures.back c.advance-stage.ensures.done c.advance-stage.ensures.routed
+        (serves_on d.worker d2.worker olds news (all_servers config.backs) keeps.who.worker keeps.about serves)
+
+pub returns-clause-seats : goal.returns-clause-seats
+returns-clause-seats g c =
+    let f = g.S.HasHistory.history in
+    let keeps = c.advance-stage.ensures.keeps in
+    serves_on c.args.self.now.worker c.args.self.now.worker (map f c.args.seats.now) (map f c.advance-stage.new.seats) (all_servers c.args.config.now.backs) refl keeps.about c.requires.seats

@@ -1,0 +1,68 @@
+-- What an exchange does next, and how one that passed ends.
+use Rattle.std.specs.Prelude.{◌≡◌, ◌⊎◌, ℕ, ◌+◌, Bool, true, [], length, Option, Some, None, ⊤}
+use Rattle.hx_base.specs.declared.numbers.ServerNo.{ServerNo}
+use Rattle.hx_conn.specs.Conns.{RestedNow, BusyNow}
+use Rattle.hx_conn.specs.Steps.{AnswerIsWhole, answer_ended}
+use Rattle.hx_frame.specs.declared.progress.MeterState.TheVariants.{Going, Done}
+use Rattle.hx_link.specs.Pipes.{PipeNow}
+use Rattle.hx_session.specs.declared.answers.Do.{Do}
+use Rattle.hx_session.specs.declared.answers.Do.TheVariants.{BadAsk, BadAnswer, PassAsk, ClientEnded, LookForHead, PassAnswer, Finish, ServerEnded, Nothing}
+use Rattle.hx_session.specs.declared.exchange.AnswerWay.TheVariants.{Heads, Body}
+use Rattle.hx_session.specs.declared.exchange.BodyWay.{BodyWay}
+use Rattle.hx_session.specs.Carried.{IsCarried}
+use Rattle.hx_session.specs.Desks.{DeskNow}
+use Rattle.hx_session.specs.Exchanged.{ExchangeNow}
+use Rattle.hx_session.specs.Over.{IsOver, after_record}
+
+-- the whole answer went on and was given
+pub record IsAnswerGiven (d : DeskNow) (e : ExchangeNow) : Type 0 where
+  pub body : BodyWay
+  pub is : e.answer ≡ Body body
+  pub ends : (body.state ≡ Done) ⊎ ((body.to_end ≡ true) × ((e.ended ≡ true) × (d.down.bytes ≡ [])))
+  pub given : d.to.bytes ≡ []
+
+-- what an exchange may do
+abbrev pub MayDo : DeskNow → ExchangeNow → Do → Type 0
+MayDo d e BadAsk = ⊤
+MayDo d e BadAnswer = ⊤
+MayDo d e PassAsk = e.ask.state ≡ Going
+MayDo d e ClientEnded = ⊤
+MayDo d e LookForHead = e.answer ≡ Heads
+MayDo d e PassAnswer = ⊤
+MayDo d e Finish = IsAnswerGiven d e
+MayDo d e ServerEnded = ⊤
+MayDo d e Nothing = ⊤
+
+-- where nothing of a body is at hand
+abbrev pub DoesAtEnd : ExchangeNow → BodyWay → PipeNow → Do → Type 0
+DoesAtEnd e b to BadAsk = ⊥
+DoesAtEnd e b to BadAnswer = ⊥
+DoesAtEnd e b to PassAsk = ⊥
+DoesAtEnd e b to ClientEnded = ⊥
+DoesAtEnd e b to LookForHead = ⊥
+DoesAtEnd e b to PassAnswer = ⊥
+DoesAtEnd e b to Finish = (b.to_end ≡ true) × (e.ended ≡ true) × (to.bytes ≡ [])
+DoesAtEnd e b to ServerEnded = ⊤
+DoesAtEnd e b to Nothing = ⊤
+
+-- the whole answer was read on the connection
+abbrev pub EndsAnswer : BusyNow → BusyNow → ℕ → Type 0
+EndsAnswer b b' n = (persistent : Bool) × (b' ≡ answer_ended b n persistent)
+
+-- what rests with the session is a connection to that server
+abbrev pub RestsTo : ServerNo → Option RestedNow → Type 0
+RestsTo server None = ⊤
+RestsTo server (Some r) = r.server ≡ server
+
+-- the next record begins behind what the pipe from the client holds
+pub record PassesTo (d d' : DeskNow) : Type 0 where
+  pub ask_to : ℕ
+  pub ends : ask_to + length d.from.bytes ≡ d.taken
+  pub desk : d' ≡ after_record d ask_to
+
+-- the exchange was over, at the desk that had it
+pub record WasOver (e : ExchangeNow) : Type 0 where
+  pub desk : DeskNow
+  pub body : BodyWay
+  pub carried : IsCarried desk e
+  pub over : IsOver desk e body

@@ -1,0 +1,57 @@
+-- What a call did with the one connection that it touched, if it touched one.
+use Rattle.std.specs.Prelude.{List, [], Option, Some, None, IfSome, ⊤}
+use Rattle.hx_base.specs.declared.what.What.{What}
+use Rattle.hx_pool.specs.SeatView.{History}
+use Rattle.hx_pool.specs.Wants.{ClosesForCause}
+use Rattle.hx_pool.specs.declared.entries.Note.{Note}
+use Rattle.hx_connecting.specs.Touches.{Touch}
+use Rattle.hx_connecting.specs.Links.{LinkGoes, NoLinkGoes}
+use Rattle.hx_connecting.specs.Closings.{Call, ClosesFor}
+use Rattle.hx_connecting.specs.Exchanges.{ExchangeGoes, PassedEnds}
+use Rattle.hx_session.specs.Causes.{ServerEvent}
+use Rattle.hx_record.specs.declared.served.Kind.{Kind}
+use Rattle.hx_record.specs.declared.served.Kind.TheVariants as kind
+use Rattle.hx_session.specs.Doings.{Doing, AtServer}
+
+-- the closing in a call behind these entries of it, seen by the cause
+abbrev pub closing_call : Doing → History → List Note → Touch → Option What → Option What → Call
+closing_call d h es x before after = record {
+  old = d.old;
+  new = d.new;
+  net_old = d.before.net;
+  net_new = d.after.net;
+  history = h;
+  before_close = es;
+  touch = x;
+  before = before;
+  after = after;
+  served = d.served;
+  left = d.left;
+}
+
+-- its link goes its way, its exchange too, and a closing of it has a cause
+pub record TouchesOne (d : Doing) (x : Touch) : Type 0 where
+  pub at : AtServer d x.server
+  pub goes : LinkGoes d.old d.new at.history at.es d.before.net d.after.net x
+  pub exchange : ExchangeGoes d.old d.new x x.went goes.before d.served
+  pub passed : IfSome d.served (λ r. PassedEnds d.old x goes.after r.kind)
+  pub closes : ClosesForCause (λ n id before. ClosesFor (closing_call d at.history before x goes.before goes.after)) [] at.es
+
+-- a record that names no connection
+abbrev pub IsOwn : Kind → Type 0
+IsOwn (kind.Passed c) = ⊥
+IsOwn (kind.Cut c why) = ⊥
+IsOwn (kind.Own status) = ⊤
+
+abbrev pub Touches : Doing → Option Touch → Type 0
+Touches d None = NoLinkGoes d.old d.new d.before.net d.after.net × IfSome d.served (λ r. IsOwn r.kind)
+Touches d (Some x) = TouchesOne d x
+
+-- what the link of the touched connection tells after the call, and what happened to it
+abbrev pub after_of : (d : Doing) (x : Option Touch) → Touches d x → Option What
+after_of d None t = None
+after_of d (Some x) t = t.goes.after
+
+abbrev pub event_of : (d : Doing) (x : Option Touch) → Touches d x → ServerEvent
+event_of d None t = record { before = None; after = None }
+event_of d (Some x) t = record { before = t.goes.before; after = t.goes.after }

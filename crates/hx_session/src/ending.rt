@@ -1,0 +1,313 @@
+//! How exchanges and sessions end early.
+
+ghost use Rattle.std.specs.Prelude.{◌≡◌, ◌+◌, ◌≤◌, [], List, length, map, Some, None};
+ghost use Rattle.hx_link.specs.Nets.{NetState};
+ghost use Rattle.hx_link.specs.Pipes.{pipe as a_pipe};
+ghost use Rattle.hx_message.specs.OwnAnswer.{IsOwnAnswer};
+ghost use Rattle.hx_pool.specs.SeatView.{History};
+ghost use Rattle.hx_record.specs.declared.served.Kind.TheVariants as kind;
+ghost use Rattle.hx_record.specs.declared.served.LeftCause.TheVariants as left_cause;
+ghost use Rattle.hx_base.specs.declared.numbers.ThreadNo.{ThreadNo};
+ghost use Rattle.hx_connecting.specs.Around.{HasAround, abouts};
+ghost use Rattle.hx_connecting.specs.Closing.{ClosesAt};
+ghost use Rattle.hx_connecting.specs.Sessions.{Exchanging as OnConn};
+ghost use Rattle.hx_session.specs.declared.stage.Came.TheVariants.{Ends};
+ghost use Rattle.hx_session.specs.Desks.{desk_now, IsDesk};
+ghost use Rattle.hx_session.specs.Exchanged.{exchange_now};
+ghost use Rattle.hx_session.specs.Over.{served_of, after_record};
+ghost use Rattle.hx_session.specs.Stages.{Exchanging, StandsSo, own_stage, stage_of_answering, stage_now};
+ghost use Rattle.hx_session.specs.Ending.{CutsOff, EndsInCut, HasOwnText, AnswersOwn};
+ghost use Rattle.hx_session.specs.Standing.{IsCounted, IsLeaving, IsPlaced, IsSet, KeepsPlace, Goes};
+ghost use Rattle.hx_link.specs.Told.{most_bytes};
+
+use crate::cuts::{answer_end, ask_end};
+use crate::desk::Desk;
+use crate::exchange::Exchange;
+use crate::stage::{Answering, Came, Choosing, Ending, Stage};
+use crate::step::Waiting;
+use hx_answers::own_answer;
+use hx_base::Millis;
+use hx_conn::Rested;
+use hx_connecting::close_busy;
+use hx_link::{Link, Net, Pipe};
+use hx_pool::Seat;
+use hx_record::{CutCause, Kind, LeftCause, Served};
+
+/// The session leaves without a record.
+pub(crate) fn leave<L: Link>(cause: LeftCause, held: Option<Rested<L>>) -> Came<L>
+    ensures { result ≡ Ends (record { cause = cause; held = held; served = None }) }
+{
+    Came::Ends(Ending {
+        cause,
+        held,
+        served: None,
+    })
+}
+
+/// The session leaves after this record.
+pub(crate) fn leave_after<L: Link>(
+    cause: LeftCause,
+    held: Option<Rested<L>>,
+    served: Served,
+) -> Came<L>
+    ensures { result ≡ Ends (record { cause = cause; held = held; served = Some served }) }
+{
+    Came::Ends(Ending {
+        cause,
+        held,
+        served: Some(served),
+    })
+}
+
+/// The proxy's own answer of that status.
+fn own_text(status: u16) -> &'static [u8]
+    requires { HasOwnText status }
+    ensures { IsOwnAnswer status result.now }
+{
+    match own_answer(status) {
+        Some(text) => text,
+        None => unreachable!(),
+    }
+}
+
+/// Fills an empty pipe.
+fn put_text(pipe: &mut Pipe, text: &[u8])
+    requires empty { pipe.old.bytes ≡ [] }
+    requires fits { length text.now ≤ pipe.old.capacity }
+    ensures { pipe.new ≡ a_pipe text.now pipe.old.capacity }
+{
+    pipe.fill(text);
+}
+
+/// Puts the proxy's own answer into the pipe to the client. Nothing was given yet since the last record.
+pub(crate) fn answer<L: Link>(
+    desk: &mut Desk<L>,
+    status: u16,
+    held: Option<Rested<L>>,
+    now: Millis,
+) -> Stage<L>
+    requires known { HasOwnText status }
+    requires desk { IsDesk (desk_now L.state desk.old) }
+    ensures stage { stage_now result ≡ own_stage status held }
+    ensures answers { AnswersOwn (desk_now L.state desk.old) (desk_now L.state desk.new) status }
+{
+    desk.drop_waiting();
+    desk.waits_since = desk.wait_start(now);
+    put_text(&mut desk.to, own_text(status));
+    Stage::Answering(Answering { status, held })
+}
+
+/// The record of an own answer.
+pub(crate) fn tell_own<L: Link>(desk: &mut Desk<L>, status: u16) -> Served
+    requires few { desk.old.number ≤ desk.old.ask_from + 1 }
+    requires within { desk.old.ask_from ≤ most_bytes }
+    ensures served { result ≡ served_of (desk_now L.state desk.old) (kind.Own status) desk.old.taken }
+    ensures next { desk_now L.state desk.new ≡ after_record (desk_now L.state desk.old) desk.old.taken }
+{
+    let all = desk.taken;
+    desk.record(Kind::Own(status), all)
+}
+
+/// The record of an exchange that is cut off. Its connection is closed.
+pub(crate) fn cut_off<L: Link, S: Seat<Rested<L>>, N: Net<L = L>>(
+    desk: &mut Desk<L>,
+    mut exchange: Exchange<L>,
+    seats: &mut [S],
+    net: &mut N,
+    cause: CutCause,
+) -> Served
+    requires set { IsSet (desk_now L.state desk.old) (Exchanging (exchange_now exchange)) (map S.history seats.old) }
+    ensures cuts { CutsOff (desk_now L.state desk.old) (desk_now L.state desk.new) (exchange_now exchange) cause result }
+    ensures closes { ClosesAt (map S.history seats.old) (map S.history seats.new) exchange.busy.server.0
+        desk.old.session exchange.busy.id (N.state net.old) (N.state net.new) exchange.busy.link }
+    ensures around { (t : ThreadNo) → HasAround t desk.old.session (Some (OnConn exchange.busy)) (map S.history seats.old)
+        → HasAround t desk.old.session None (map S.history seats.new) }
+    ensures about { abouts (map S.history seats.new) ≡ abouts (map S.history seats.old) }
+    ensures loop_ { (N.state net.new).loop_no ≡ (N.state net.old).loop_no }
+{
+    let ask_to = ask_end(desk, &mut exchange.ask);
+    let took_to = answer_end(desk, &mut exchange);
+    let carried = exchange.carried(took_to);
+    let served = desk.record(Kind::Cut(carried, cause), ask_to);
+    close_busy(seats, net, desk.session, exchange.busy);
+    served
+}
+
+/// Cuts the exchange off, and the session leaves.
+pub(crate) fn cut<L: Link, S: Seat<Rested<L>>, N: Net<L = L>>(
+    desk: &mut Desk<L>,
+    exchange: Exchange<L>,
+    seats: &mut [S],
+    net: &mut N,
+    cause: CutCause,
+) -> Came<L>
+    requires set { IsSet (desk_now L.state desk.old) (Exchanging (exchange_now exchange)) (map S.history seats.old) }
+    ensures ends { EndsInCut (desk_now L.state desk.old) (desk_now L.state desk.new) (exchange_now exchange) cause result }
+    ensures goes { Goes (desk_now L.state desk.old) (Exchanging (exchange_now exchange)) (map S.history seats.old) (N.state net.old)
+        (desk_now L.state desk.new) result (map S.history seats.new) (N.state net.new) }
+{
+    let served = cut_off(desk, exchange, seats, net, cause);
+    desk.drop_waiting();
+    leave_after(LeftCause::Cut, None, served)
+}
+
+/// An own answer that is decided, and what the step waited for before.
+#[derive(Clone, Copy)]
+pub(crate) struct Own {
+    pub status: u16,
+    pub now: Millis,
+    pub waits: Waiting,
+}
+
+/// The proxy answers itself in place of the server. Nothing was given yet since the last record.
+pub(crate) fn give_up<L: Link, S: Seat<Rested<L>>, N: Net<L = L>>(
+    desk: &mut Desk<L>,
+    exchange: Exchange<L>,
+    seats: &mut [S],
+    net: &mut N,
+    own: Own,
+) -> Came<L>
+    requires known { HasOwnText own.status }
+    requires nothing { desk.old.given ≤ desk.old.gave_from }
+    requires set { IsSet (desk_now L.state desk.old) (Exchanging (exchange_now exchange)) (map S.history seats.old) }
+    ensures goes { Goes (desk_now L.state desk.old) (Exchanging (exchange_now exchange)) (map S.history seats.old) (N.state net.old)
+        (desk_now L.state desk.new) result (map S.history seats.new) (N.state net.new) }
+{
+    close_busy(seats, net, desk.session, exchange.busy);
+    let stage = answer(desk, own.status, None, own.now);
+    Came::Moved(stage, own.waits, None)
+}
+
+/// An event of the server's side: an own answer where nothing was given yet, else a cut.
+pub(crate) fn end_by_server<L: Link, S: Seat<Rested<L>>, N: Net<L = L>>(
+    desk: &mut Desk<L>,
+    exchange: Exchange<L>,
+    seats: &mut [S],
+    net: &mut N,
+    why: (CutCause, Own),
+) -> Came<L>
+    requires known { HasOwnText why.1.status }
+    requires set { IsSet (desk_now L.state desk.old) (Exchanging (exchange_now exchange)) (map S.history seats.old) }
+    ensures goes { Goes (desk_now L.state desk.old) (Exchanging (exchange_now exchange)) (map S.history seats.old) (N.state net.old)
+        (desk_now L.state desk.new) result (map S.history seats.new) (N.state net.new) }
+{
+    if desk.has_given() {
+        cut(desk, exchange, seats, net, why.0)
+    } else {
+        give_up(desk, exchange, seats, net, why.1)
+    }
+}
+
+/// The connection was used before and gave nothing for this request, which isn't the session's first.
+fn is_silent<L: Link>(desk: &Desk<L>, exchange: &Exchange<L>) -> bool {
+    let taken = exchange.busy.taken();
+    desk.number >= 2 && exchange.busy.nth() >= 2 && taken.from == taken.to && !desk.has_given()
+}
+
+/// The server's link ended early or failed.
+pub(crate) fn lose_server<L: Link, S: Seat<Rested<L>>, N: Net<L = L>>(
+    desk: &mut Desk<L>,
+    exchange: Exchange<L>,
+    seats: &mut [S],
+    net: &mut N,
+    why: (CutCause, Own),
+) -> Came<L>
+    requires known { HasOwnText why.1.status }
+    requires set { IsSet (desk_now L.state desk.old) (Exchanging (exchange_now exchange)) (map S.history seats.old) }
+    ensures goes { Goes (desk_now L.state desk.old) (Exchanging (exchange_now exchange)) (map S.history seats.old) (N.state net.old)
+        (desk_now L.state desk.new) result (map S.history seats.new) (N.state net.new) }
+{
+    if is_silent(desk, &exchange) {
+        cut(desk, exchange, seats, net, CutCause::Silent)
+    } else {
+        end_by_server(desk, exchange, seats, net, why)
+    }
+}
+
+/// Leaves with the record of an own answer that wasn't given whole.
+pub(crate) fn leave_answering<L: Link>(
+    desk: &mut Desk<L>,
+    answering: Answering<L>,
+    left: LeftCause,
+) -> Came<L>
+    requires stands { StandsSo (desk_now L.state desk.old) (stage_of_answering answering) }
+    requires counted { IsCounted (desk_now L.state desk.old) }
+    ensures goes { (seats : List History) (net : NetState) → IsPlaced (desk_now L.state desk.old) (stage_of_answering answering) seats
+        → Goes (desk_now L.state desk.old) (stage_of_answering answering) seats net (desk_now L.state desk.new) result seats net }
+{
+    let Answering { status, held } = answering;
+    let served = tell_own(desk, status);
+    desk.drop_waiting();
+    leave_after(left, held, served)
+}
+
+/// Cuts the exchange that is under way, or leaves, with the record of an own answer where one was decided.
+pub(crate) fn leave_or_cut<L: Link, S: Seat<Rested<L>>, N: Net<L = L>>(
+    desk: &mut Desk<L>,
+    stage: Stage<L>,
+    seats: &mut [S],
+    net: &mut N,
+    left: LeftCause,
+) -> Came<L>
+    requires placed { IsPlaced (desk_now L.state desk.old) (stage_now stage) (map S.history seats.old) }
+    ensures goes { Goes (desk_now L.state desk.old) (stage_now stage) (map S.history seats.old) (N.state net.old)
+        (desk_now L.state desk.new) result (map S.history seats.new) (N.state net.new) }
+{
+    match stage {
+        Stage::Exchanging(exchange) => cut(desk, exchange, seats, net, CutCause::Client),
+        Stage::Reading(held) => leave(left, held),
+        Stage::Choosing(Choosing { held, .. }) => leave(left, held),
+        Stage::Answering(answering) => leave_answering(desk, answering, left),
+        Stage::Left => Came::Moved(Stage::Left, Waiting::Nothing, None),
+    }
+}
+
+/// What a stop makes of the stage: the record of what was under way, and what the session still holds.
+pub(crate) fn stop_stage<L: Link, S: Seat<Rested<L>>, N: Net<L = L>>(
+    desk: &mut Desk<L>,
+    stage: Stage<L>,
+    seats: &mut [S],
+    net: &mut N,
+) -> Ending<L>
+    requires placed { IsPlaced (desk_now L.state desk.old) (stage_now stage) (map S.history seats.old) }
+    ensures leaving { IsLeaving (desk_now L.state desk.new) result.held (map S.history seats.new) }
+    ensures keeps { KeepsPlace (desk_now L.state desk.old) (desk_now L.state desk.new) (map S.history seats.old) (map S.history seats.new)
+        (N.state net.old) (N.state net.new) }
+    ensures client { L.state desk.new.client ≡ L.state desk.old.client }
+    ensures cause { result.cause ≡ left_cause.Stop }
+{
+    let cause = LeftCause::Stop;
+    match stage {
+        Stage::Reading(held) => Ending {
+            cause,
+            held,
+            served: None,
+        },
+        Stage::Choosing(Choosing { held, .. }) => Ending {
+            cause,
+            held,
+            served: None,
+        },
+        Stage::Answering(Answering { status, held }) => {
+            let served = Some(tell_own(desk, status));
+            Ending {
+                cause,
+                held,
+                served,
+            }
+        }
+        Stage::Exchanging(exchange) => {
+            let served = Some(cut_off(desk, exchange, seats, net, CutCause::Stop));
+            Ending {
+                cause,
+                held: None,
+                served,
+            }
+        }
+        Stage::Left => Ending {
+            cause,
+            held: None,
+            served: None,
+        },
+    }
+}

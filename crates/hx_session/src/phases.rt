@@ -1,0 +1,598 @@
+//! The parts of a step, in their order.
+
+ghost use Rattle.std.specs.Prelude.{◌≡◌, ◌↔◌, ◌<◌, ◌≤◌, IsTrue, List, length, map, false, None};
+ghost use Rattle.hx_config.specs.declared.parts.Back.{Back};
+ghost use Rattle.hx_config.specs.Limits.{all_servers};
+ghost use Rattle.hx_link.specs.Nets.{NetState};
+ghost use Rattle.hx_pool.specs.SeatView.{History};
+ghost use Rattle.hx_connecting.specs.Around.{abouts};
+ghost use Rattle.hx_connecting.specs.Choice.{HaveSeats};
+ghost use Rattle.hx_session.specs.Desks.{DeskNow, desk_now};
+ghost use Rattle.hx_session.specs.Exchanged.{exchange_now};
+ghost use Rattle.hx_session.specs.Ending.{HasOwnText};
+ghost use Rattle.hx_session.specs.declared.moves.Move.TheVariants.{Failed};
+ghost use Rattle.hx_session.specs.Stages.{Left as Gone, Reading, Exchanging, StandsSo, IsBetween, stage_now, stage_of_answering, stage_of_choosing};
+ghost use Rattle.hx_session.specs.Standing.{IsCounted, IsPlaced, CamePlaced, IsRoutedTo, CameRouted, KeepsPlace, KeepsOver, Goes, IsDone, IsGone, IsLeaving, IsSet};
+ghost use Rattle.hx_session.specs.Still.{WantsClient};
+
+use crate::answers::{At, go_on};
+use crate::asks::{choose_server, go_out, read_head};
+use crate::deadline::{Late, find_late};
+use crate::desk::Desk;
+use crate::ending::{
+    Own, answer, cut, end_by_server, leave, leave_after, leave_answering, leave_or_cut, lose_server,
+    tell_own,
+};
+use crate::exchange::Exchange;
+use crate::moves::{Move, give, read_client, read_server, send};
+use crate::stage::{Answering, Came, Choosing, Ending, Stage};
+use crate::step::{Waiting, Waits};
+use crate::world::Scene;
+use hx_base::Millis;
+use hx_config::Back;
+use hx_conn::Rested;
+use hx_connecting::close_any;
+use hx_frame::MeterState;
+use hx_link::{Link, Net};
+use hx_pool::Seat;
+use hx_record::{CutCause, Left, LeftCause, Served};
+
+/// What a step came to: where the session stands now, and what is told.
+#[derive(Drop)]
+pub(crate) struct Done<L: Link> {
+    pub stage: Stage<L>,
+    pub moved: bool,
+    pub waits: Waits,
+    pub served: Option<Served>,
+    pub left: Option<Left>,
+}
+
+/// The client's deadline has come in an exchange.
+fn cut_late<L: Link, S: Seat<Rested<L>>, N: Net<L = L>>(
+    desk: &mut Desk<L>,
+    exchange: Exchange<L>,
+    seats: &mut [S],
+    net: &mut N,
+    own: Own,
+) -> Came<L>
+    requires known { HasOwnText own.status }
+    requires placed { IsPlaced (desk_now L.state desk.old) (Exchanging (exchange_now exchange)) (map S.history seats.old) }
+    ensures goes { Goes (desk_now L.state desk.old) (Exchanging (exchange_now exchange)) (map S.history seats.old) (N.state net.old)
+        (desk_now L.state desk.new) result (map S.history seats.new) (N.state net.new) }
+{
+    if desk.to.len() > 0 {
+        return cut(desk, exchange, seats, net, CutCause::Client);
+    }
+    end_by_server(desk, exchange, seats, net, (CutCause::Client, own))
+}
+
+/// The client's deadline has come while a head is read: the session leaves, where nothing was taken of it.
+fn read_late<L: Link>(desk: &mut Desk<L>, held: Option<Rested<L>>, own: Own) -> Came<L>
+    requires known { HasOwnText own.status }
+    requires between { IsBetween (desk_now L.state desk.old) }
+    ensures goes { (seats : List History) (net : NetState) → IsPlaced (desk_now L.state desk.old) (Reading held) seats
+        → Goes (desk_now L.state desk.old) (Reading held) seats net (desk_now L.state desk.new) result seats net }
+{
+    if desk.ask_from < desk.taken {
+        let stage = answer(desk, own.status, held, own.now);
+        Came::Moved(stage, own.waits, None)
+    } else {
+        leave(LeftCause::Idle, held)
+    }
+}
+
+/// The client's deadline has come while a request waits for its exchange.
+fn choose_late<L: Link>(desk: &mut Desk<L>, choosing: Choosing<L>, own: Own) -> Came<L>
+    requires known { HasOwnText own.status }
+    requires between { IsBetween (desk_now L.state desk.old) }
+    ensures goes { (seats : List History) (net : NetState) → IsPlaced (desk_now L.state desk.old) (stage_of_choosing choosing) seats
+        → Goes (desk_now L.state desk.old) (stage_of_choosing choosing) seats net (desk_now L.state desk.new) result seats net }
+{
+    let Choosing { held, .. } = choosing;
+    let stage = answer(desk, own.status, held, own.now);
+    Came::Moved(stage, own.waits, None)
+}
+
+/// The client's deadline has come.
+fn meet_client_late<L: Link, S: Seat<Rested<L>>, N: Net<L = L>>(
+    desk: &mut Desk<L>,
+    stage: Stage<L>,
+    seats: &mut [S],
+    net: &mut N,
+    own: Own,
+) -> Came<L>
+    requires known { HasOwnText own.status }
+    requires placed { IsPlaced (desk_now L.state desk.old) (stage_now stage) (map S.history seats.old) }
+    ensures goes { Goes (desk_now L.state desk.old) (stage_now stage) (map S.history seats.old) (N.state net.old)
+        (desk_now L.state desk.new) result (map S.history seats.new) (N.state net.new) }
+{
+    match stage {
+        Stage::Exchanging(exchange) => cut_late(desk, exchange, seats, net, own),
+        Stage::Reading(held) => read_late(desk, held, own),
+        Stage::Choosing(choosing) => choose_late(desk, choosing, own),
+        Stage::Answering(answering) => leave_answering(desk, answering, LeftCause::Idle),
+        Stage::Left => Came::On(Stage::Left, own.waits),
+    }
+}
+
+/// The own answer of a deadline.
+fn own_of(late: Late, now: Millis) -> Own
+    ensures { HasOwnText result.status }
+{
+    let status = match late {
+        Late::Client => 408,
+        Late::Connect => 503,
+        Late::Server => 504,
+    };
+    Own {
+        status,
+        now,
+        waits: Waiting::Nothing,
+    }
+}
+
+/// A deadline of the server's side has come.
+fn meet_server_late<L: Link, S: Seat<Rested<L>>, N: Net<L = L>>(
+    desk: &mut Desk<L>,
+    stage: Stage<L>,
+    seats: &mut [S],
+    net: &mut N,
+    own: Own,
+) -> Came<L>
+    requires known { HasOwnText own.status }
+    requires placed { IsPlaced (desk_now L.state desk.old) (stage_now stage) (map S.history seats.old) }
+    ensures goes { Goes (desk_now L.state desk.old) (stage_now stage) (map S.history seats.old) (N.state net.old)
+        (desk_now L.state desk.new) result (map S.history seats.new) (N.state net.new) }
+{
+    match stage {
+        Stage::Exchanging(exchange) => end_by_server(
+            desk,
+            exchange,
+            seats,
+            net,
+            (CutCause::Late, own),
+        ),
+        Stage::Reading(held) => Came::On(Stage::Reading(held), own.waits),
+        Stage::Choosing(choosing) => Came::On(Stage::Choosing(choosing), own.waits),
+        Stage::Answering(answering) => Came::On(Stage::Answering(answering), own.waits),
+        Stage::Left => Came::On(Stage::Left, own.waits),
+    }
+}
+
+/// The first part of a step: a deadline that has come.
+fn meet_deadline<L: Link, S: Seat<Rested<L>>, N: Net<L = L>>(
+    desk: &mut Desk<L>,
+    stage: Stage<L>,
+    seats: &mut [S],
+    net: &mut N,
+    scene: Scene<'_>,
+) -> Came<L>
+    requires placed { IsPlaced (desk_now L.state desk.old) (stage_now stage) (map S.history seats.old) }
+    ensures goes { Goes (desk_now L.state desk.old) (stage_now stage) (map S.history seats.old) (N.state net.old)
+        (desk_now L.state desk.new) result (map S.history seats.new) (N.state net.new) }
+{
+    match find_late(desk, &stage, scene.front, scene.back, scene.now) {
+        None => Came::On(stage, Waiting::Nothing),
+        Some(Late::Client) => {
+            let own = own_of(Late::Client, scene.now);
+            meet_client_late(desk, stage, seats, net, own)
+        }
+        Some(late) => {
+            let own = own_of(late, scene.now);
+            meet_server_late(desk, stage, seats, net, own)
+        }
+    }
+}
+
+/// One write of the bytes that wait for the client.
+fn give_some<L: Link, S: Seat<Rested<L>>, N: Net<L = L>>(
+    desk: &mut Desk<L>,
+    stage: Stage<L>,
+    seats: &mut [S],
+    net: &mut N,
+    at: At,
+) -> Came<L>
+    requires placed { IsPlaced (desk_now L.state desk.old) (stage_now stage) (map S.history seats.old) }
+    ensures goes { Goes (desk_now L.state desk.old) (stage_now stage) (map S.history seats.old) (N.state net.old)
+        (desk_now L.state desk.new) result (map S.history seats.new) (N.state net.new) }
+{
+    match give(desk, at.now) {
+        Move::Bytes => Came::Moved(stage, at.waits, None),
+        Move::Ended => Came::Moved(stage, at.waits, None),
+        Move::Failed => leave_or_cut(desk, stage, seats, net, LeftCause::Fault),
+        Move::Idle => Came::On(stage, at.waits),
+        Move::Waits => Came::On(stage, at.waits.or(Waiting::Client)),
+    }
+}
+
+/// Bytes that wait are given to the client.
+fn move_to_client<L: Link, S: Seat<Rested<L>>, N: Net<L = L>>(
+    desk: &mut Desk<L>,
+    came: Came<L>,
+    seats: &mut [S],
+    net: &mut N,
+    now: Millis,
+) -> Came<L>
+    requires placed { CamePlaced (desk_now L.state desk.old) came (map S.history seats.old) }
+    ensures placed { CamePlaced (desk_now L.state desk.new) result (map S.history seats.new) }
+    ensures keeps { KeepsPlace (desk_now L.state desk.old) (desk_now L.state desk.new) (map S.history seats.old) (map S.history seats.new)
+        (N.state net.old) (N.state net.new) }
+    ensures routed { (back : Back) → CameRouted back came → CameRouted back result }
+{
+    let Came::On(stage, waits) = came else {
+        return came;
+    };
+    give_some(desk, stage, seats, net, At { now, waits })
+}
+
+/// What a call of the server's link leads to.
+fn after_server_move<L: Link, S: Seat<Rested<L>>, N: Net<L = L>>(
+    desk: &mut Desk<L>,
+    exchange: Exchange<L>,
+    seats: &mut [S],
+    net: &mut N,
+    call: (Move, At),
+) -> Came<L>
+    requires good { (call.0 ≡ Failed → ⊥) → exchange.busy.exchange.failed ≡ false }
+    requires set { IsSet (desk_now L.state desk.old) (Exchanging (exchange_now exchange)) (map S.history seats.old) }
+    ensures goes { Goes (desk_now L.state desk.old) (Exchanging (exchange_now exchange)) (map S.history seats.old) (N.state net.old)
+        (desk_now L.state desk.new) result (map S.history seats.new) (N.state net.new) }
+{
+    let (moved, at) = call;
+    match moved {
+        Move::Bytes => Came::Moved(Stage::Exchanging(exchange), at.waits, None),
+        Move::Ended => Came::Moved(Stage::Exchanging(exchange), at.waits, None),
+        Move::Failed => {
+            let own = Own {
+                status: 502,
+                now: at.now,
+                waits: at.waits,
+            };
+            lose_server(desk, exchange, seats, net, (CutCause::Fault, own))
+        }
+        Move::Idle => Came::On(Stage::Exchanging(exchange), at.waits),
+        Move::Waits => Came::On(Stage::Exchanging(exchange), at.waits.or(Waiting::Server)),
+    }
+}
+
+/// One write of the bytes that wait for the server.
+fn send_some<L: Link, S: Seat<Rested<L>>, N: Net<L = L>>(
+    desk: &mut Desk<L>,
+    mut exchange: Exchange<L>,
+    seats: &mut [S],
+    net: &mut N,
+    at: At,
+) -> Came<L>
+    requires placed { IsPlaced (desk_now L.state desk.old) (Exchanging (exchange_now exchange)) (map S.history seats.old) }
+    ensures goes { Goes (desk_now L.state desk.old) (Exchanging (exchange_now exchange)) (map S.history seats.old) (N.state net.old)
+        (desk_now L.state desk.new) result (map S.history seats.new) (N.state net.new) }
+{
+    let sent = send(desk, &mut exchange, at.now);
+    after_server_move(desk, exchange, seats, net, (sent, at))
+}
+
+/// Bytes that wait are sent to the server.
+fn move_to_server<L: Link, S: Seat<Rested<L>>, N: Net<L = L>>(
+    desk: &mut Desk<L>,
+    came: Came<L>,
+    seats: &mut [S],
+    net: &mut N,
+    now: Millis,
+) -> Came<L>
+    requires placed { CamePlaced (desk_now L.state desk.old) came (map S.history seats.old) }
+    ensures placed { CamePlaced (desk_now L.state desk.new) result (map S.history seats.new) }
+    ensures keeps { KeepsPlace (desk_now L.state desk.old) (desk_now L.state desk.new) (map S.history seats.old) (map S.history seats.new)
+        (N.state net.old) (N.state net.new) }
+    ensures routed { (back : Back) → CameRouted back came → CameRouted back result }
+{
+    let Came::On(stage, waits) = came else {
+        return came;
+    };
+    let Stage::Exchanging(exchange) = stage else {
+        return Came::On(stage, waits);
+    };
+    send_some(desk, exchange, seats, net, At { now, waits })
+}
+
+/// A server is chosen for the request, where none is chosen yet.
+fn take_turn<L: Link, S: Seat<Rested<L>>>(
+    came: Came<L>,
+    seats: &mut [S],
+    turn: &mut u16,
+    back: &Back,
+) -> Came<L>
+    requires few { length back.now.servers ≤ 32 }
+    requires turn { turn.old < length back.now.servers }
+    requires seats { HaveSeats back.now.servers (length seats.old) }
+    ensures placed { (d : DeskNow) → CamePlaced d came (map S.history seats.old) → CamePlaced d result (map S.history seats.new) }
+    ensures about { abouts (map S.history seats.new) ≡ abouts (map S.history seats.old) }
+    ensures routed { CameRouted back.now came → CameRouted back.now result }
+    ensures turn { turn.new < length back.now.servers }
+{
+    let Came::On(stage, waits) = came else {
+        return came;
+    };
+    Came::On(choose_server(stage, seats, turn, back), waits)
+}
+
+/// An own answer that was given whole ends the session.
+fn end_answering<L: Link>(desk: &mut Desk<L>, answering: Answering<L>, waits: Waiting) -> Came<L>
+    requires stands { StandsSo (desk_now L.state desk.old) (stage_of_answering answering) }
+    requires counted { IsCounted (desk_now L.state desk.old) }
+    ensures goes { (seats : List History) (net : NetState) → IsPlaced (desk_now L.state desk.old) (stage_of_answering answering) seats
+        → Goes (desk_now L.state desk.old) (stage_of_answering answering) seats net (desk_now L.state desk.new) result seats net }
+{
+    if desk.to.len() > 0 {
+        return Came::On(Stage::Answering(answering), waits);
+    }
+    leave_answering(desk, answering, LeftCause::Own)
+}
+
+/// What the session's stage has to do.
+fn do_stage<L: Link, S: Seat<Rested<L>>, N: Net<L = L>>(
+    desk: &mut Desk<L>,
+    stage: Stage<L>,
+    seats: &mut [S],
+    net: &mut N,
+    scene: Scene<'_>,
+) -> Came<L>
+    requires seats { HaveSeats scene.back.now.servers (length seats.old) }
+    requires servers { length seats.old ≡ length (all_servers scene.config.now.backs) }
+    requires routed { IsRoutedTo scene.back.now (stage_now stage) }
+    requires loop_ { (N.state net.old).loop_no ≡ desk.old.worker.0 }
+    requires placed { IsPlaced (desk_now L.state desk.old) (stage_now stage) (map S.history seats.old) }
+    ensures goes { Goes (desk_now L.state desk.old) (stage_now stage) (map S.history seats.old) (N.state net.old)
+        (desk_now L.state desk.new) result (map S.history seats.new) (N.state net.new) }
+{
+    match stage {
+        Stage::Reading(held) => read_head(desk, held, scene.now, scene.waits),
+        Stage::Choosing(choosing) => {
+            let stage = go_out(desk, choosing, seats, net, scene);
+            Came::Moved(stage, scene.waits, None)
+        }
+        Stage::Exchanging(exchange) => {
+            let at = At {
+                now: scene.now,
+                waits: scene.waits,
+            };
+            go_on(desk, exchange, seats, net, at)
+        }
+        Stage::Answering(answering) => end_answering(desk, answering, scene.waits),
+        Stage::Left => Came::On(Stage::Left, scene.waits),
+    }
+}
+
+/// The phase of a step.
+fn do_phase<L: Link, S: Seat<Rested<L>>, N: Net<L = L>>(
+    desk: &mut Desk<L>,
+    came: Came<L>,
+    seats: &mut [S],
+    net: &mut N,
+    scene: Scene<'_>,
+) -> Came<L>
+    requires seats { HaveSeats scene.back.now.servers (length seats.old) }
+    requires servers { length seats.old ≡ length (all_servers scene.config.now.backs) }
+    requires routed { CameRouted scene.back.now came }
+    requires loop_ { (N.state net.old).loop_no ≡ desk.old.worker.0 }
+    requires placed { CamePlaced (desk_now L.state desk.old) came (map S.history seats.old) }
+    ensures placed { CamePlaced (desk_now L.state desk.new) result (map S.history seats.new) }
+    ensures keeps { KeepsPlace (desk_now L.state desk.old) (desk_now L.state desk.new) (map S.history seats.old) (map S.history seats.new)
+        (N.state net.old) (N.state net.new) }
+    ensures routed { (back : Back) → CameRouted back came → CameRouted back result }
+{
+    let Came::On(stage, waits) = came else {
+        return came;
+    };
+    let scene = Scene {
+        config: scene.config,
+        front: scene.front,
+        back: scene.back,
+        now: scene.now,
+        waits,
+    };
+    do_stage(desk, stage, seats, net, scene)
+}
+
+fn reads_client<L: Link>(stage: &Stage<L>) -> bool
+    ensures { IsTrue result ↔ WantsClient (stage_now stage.now) }
+{
+    match stage {
+        Stage::Reading(_) => true,
+        Stage::Exchanging(exchange) => matches!(exchange.ask.state, MeterState::Going),
+        Stage::Choosing(_) | Stage::Answering(_) | Stage::Left => false,
+    }
+}
+
+/// One read of the client.
+fn take_some<L: Link, S: Seat<Rested<L>>, N: Net<L = L>>(
+    desk: &mut Desk<L>,
+    stage: Stage<L>,
+    seats: &mut [S],
+    net: &mut N,
+    at: At,
+) -> Came<L>
+    requires wants { WantsClient (stage_now stage) }
+    requires placed { IsPlaced (desk_now L.state desk.old) (stage_now stage) (map S.history seats.old) }
+    ensures goes { Goes (desk_now L.state desk.old) (stage_now stage) (map S.history seats.old) (N.state net.old)
+        (desk_now L.state desk.new) result (map S.history seats.new) (N.state net.new) }
+{
+    match read_client(desk, at.now) {
+        Move::Bytes => Came::Moved(stage, at.waits, None),
+        Move::Ended => Came::Moved(stage, at.waits, None),
+        Move::Failed => leave_or_cut(desk, stage, seats, net, LeftCause::Fault),
+        Move::Idle => Came::On(stage, at.waits),
+        Move::Waits => Came::On(stage, at.waits.or(Waiting::Client)),
+    }
+}
+
+/// The client is read, where more of a request is wanted.
+fn move_from_client<L: Link, S: Seat<Rested<L>>, N: Net<L = L>>(
+    desk: &mut Desk<L>,
+    came: Came<L>,
+    seats: &mut [S],
+    net: &mut N,
+    now: Millis,
+) -> Came<L>
+    requires placed { CamePlaced (desk_now L.state desk.old) came (map S.history seats.old) }
+    ensures placed { CamePlaced (desk_now L.state desk.new) result (map S.history seats.new) }
+    ensures keeps { KeepsPlace (desk_now L.state desk.old) (desk_now L.state desk.new) (map S.history seats.old) (map S.history seats.new)
+        (N.state net.old) (N.state net.new) }
+    ensures routed { (back : Back) → CameRouted back came → CameRouted back result }
+{
+    let Came::On(stage, waits) = came else {
+        return came;
+    };
+    if !reads_client(&stage) {
+        return Came::On(stage, waits);
+    }
+    take_some(desk, stage, seats, net, At { now, waits })
+}
+
+/// One read of the server.
+fn read_some<L: Link, S: Seat<Rested<L>>, N: Net<L = L>>(
+    desk: &mut Desk<L>,
+    mut exchange: Exchange<L>,
+    seats: &mut [S],
+    net: &mut N,
+    at: At,
+) -> Came<L>
+    requires placed { IsPlaced (desk_now L.state desk.old) (Exchanging (exchange_now exchange)) (map S.history seats.old) }
+    ensures goes { Goes (desk_now L.state desk.old) (Exchanging (exchange_now exchange)) (map S.history seats.old) (N.state net.old)
+        (desk_now L.state desk.new) result (map S.history seats.new) (N.state net.new) }
+{
+    let read = read_server(desk, &mut exchange, at.now);
+    after_server_move(desk, exchange, seats, net, (read, at))
+}
+
+/// The server is read.
+fn move_from_server<L: Link, S: Seat<Rested<L>>, N: Net<L = L>>(
+    desk: &mut Desk<L>,
+    came: Came<L>,
+    seats: &mut [S],
+    net: &mut N,
+    now: Millis,
+) -> Came<L>
+    requires placed { CamePlaced (desk_now L.state desk.old) came (map S.history seats.old) }
+    ensures placed { CamePlaced (desk_now L.state desk.new) result (map S.history seats.new) }
+    ensures keeps { KeepsPlace (desk_now L.state desk.old) (desk_now L.state desk.new) (map S.history seats.old) (map S.history seats.new)
+        (N.state net.old) (N.state net.new) }
+    ensures routed { (back : Back) → CameRouted back came → CameRouted back result }
+{
+    let Came::On(stage, waits) = came else {
+        return came;
+    };
+    let Stage::Exchanging(exchange) = stage else {
+        return Came::On(stage, waits);
+    };
+    read_some(desk, exchange, seats, net, At { now, waits })
+}
+
+/// What a session that leaves holds is closed, and its client's link is attached to no loop.
+pub(crate) fn let_go<L: Link, S: Seat<Rested<L>>, N: Net<L = L>>(
+    desk: &mut Desk<L>,
+    held: Option<Rested<L>>,
+    seats: &mut [S],
+    net: &mut N,
+)
+    requires leaving { IsLeaving (desk_now L.state desk.old) held (map S.history seats.old) }
+    ensures gone { IsGone (desk_now L.state desk.new) (map S.history seats.new) }
+    ensures client { L.state desk.new.client ≡ record (L.state desk.old.client) { on_loop = None } }
+    ensures keeps { KeepsOver (desk_now L.state desk.old) (desk_now L.state desk.new) (map S.history seats.old) (map S.history seats.new)
+        (N.state net.old) (N.state net.new) }
+{
+    close_any(seats, net, desk.session, held);
+    net.detach(&mut desk.client);
+}
+
+/// The session leaves.
+fn give_left<L: Link, S: Seat<Rested<L>>, N: Net<L = L>>(
+    desk: &mut Desk<L>,
+    ending: Ending<L>,
+    seats: &mut [S],
+    net: &mut N,
+) -> Done<L>
+    requires leaving { IsLeaving (desk_now L.state desk.old) ending.held (map S.history seats.old) }
+    ensures stage { stage_now result.stage ≡ Gone }
+    ensures done { IsDone (desk_now L.state desk.new) (stage_now result.stage) (map S.history seats.new) result.waits result.left }
+    ensures keeps { KeepsOver (desk_now L.state desk.old) (desk_now L.state desk.new) (map S.history seats.old) (map S.history seats.new)
+        (N.state net.old) (N.state net.new) }
+{
+    let Ending {
+        cause,
+        held,
+        served,
+    } = ending;
+    let_go(desk, held, seats, net);
+    let left = Some(desk.leave(cause));
+    Done {
+        stage: Stage::Left,
+        moved: true,
+        waits: Waits::Ended,
+        served,
+        left,
+    }
+}
+
+/// The step is over.
+fn conclude<L: Link, S: Seat<Rested<L>>, N: Net<L = L>>(
+    desk: &mut Desk<L>,
+    came: Came<L>,
+    seats: &mut [S],
+    net: &mut N,
+) -> Done<L>
+    requires placed { CamePlaced (desk_now L.state desk.old) came (map S.history seats.old) }
+    ensures done { IsDone (desk_now L.state desk.new) (stage_now result.stage) (map S.history seats.new) result.waits result.left }
+    ensures keeps { KeepsOver (desk_now L.state desk.old) (desk_now L.state desk.new) (map S.history seats.old) (map S.history seats.new)
+        (N.state net.old) (N.state net.new) }
+    ensures routed { (back : Back) → CameRouted back came → IsRoutedTo back (stage_now result.stage) }
+{
+    match came {
+        Came::On(stage, waits) => Done {
+            stage,
+            moved: false,
+            waits: waits.tell(),
+            served: None,
+            left: None,
+        },
+        Came::Moved(stage, waits, served) => Done {
+            stage,
+            moved: true,
+            waits: waits.tell(),
+            served,
+            left: None,
+        },
+        Came::Ends(ending) => give_left(desk, ending, seats, net),
+    }
+}
+
+/// One step of a session that hasn't given its Left: the first thing that applies.
+pub(crate) fn advance<L: Link, S: Seat<Rested<L>>, N: Net<L = L>>(
+    desk: &mut Desk<L>,
+    stage: Stage<L>,
+    seats: &mut [S],
+    turn: &mut u16,
+    net: &mut N,
+    scene: Scene<'_>,
+) -> Done<L>
+    requires few { length scene.back.now.servers ≤ 32 }
+    requires turn { turn.old < length scene.back.now.servers }
+    requires seats { HaveSeats scene.back.now.servers (length seats.old) }
+    requires servers { length seats.old ≡ length (all_servers scene.config.now.backs) }
+    requires placed { IsPlaced (desk_now L.state desk.old) (stage_now stage) (map S.history seats.old) }
+    requires routed { IsRoutedTo scene.back.now (stage_now stage) }
+    requires loop_ { (N.state net.old).loop_no ≡ desk.old.worker.0 }
+    ensures done { IsDone (desk_now L.state desk.new) (stage_now result.stage) (map S.history seats.new) result.waits result.left }
+    ensures keeps { KeepsOver (desk_now L.state desk.old) (desk_now L.state desk.new) (map S.history seats.old) (map S.history seats.new)
+        (N.state net.old) (N.state net.new) }
+    ensures routed { IsRoutedTo scene.entry.back.now (stage_now result.stage) }
+    ensures turn { turn.new < length scene.entry.back.now.servers }
+{
+    let came = meet_deadline(desk, stage, seats, net, scene);
+    let came = move_to_client(desk, came, seats, net, scene.now);
+    let came = move_to_server(desk, came, seats, net, scene.now);
+    let came = take_turn(came, seats, turn, scene.back);
+    let came = do_phase(desk, came, seats, net, scene);
+    let came = move_from_client(desk, came, seats, net, scene.now);
+    let came = move_from_server(desk, came, seats, net, scene.now);
+    conclude(desk, came, seats, net)
+}
