@@ -126,9 +126,9 @@ new_loop old new n server m net net' Dead k = absurd k
 new_loop old new n server m net net' Refused k = ⊎_elim
     (λ e. ap (λ (s : NetState). s.loop_no) e.2)
     (λ z. ⊎_elim
-        (λ x. ap (λ (s : NetState). s.loop_no) x.1.net)
-        (λ y. closed_loop z.0 new n z.1 y.2 net' y.0 y.6 ∙ (ap (λ (s : NetState). s.loop_no) y.5.0.0 ∙ ap (λ (s : NetState). s.loop_no) y.4.net))
-        z.3)
+    (λ x. ap (λ (s : NetState). s.loop_no) x.1.net)
+    (λ y. closed_loop z.0 new n z.1 y.2 net' y.0 y.6 ∙ (ap (λ (s : NetState). s.loop_no) y.5.0.0 ∙ ap (λ (s : NetState). s.loop_no) y.4.net))
+    z.3)
     k
 
 connects_loop : {X : Type 0} (old new : History) (n : SessionNo) (first : Bool) (server : ServerNo) (now : ℕ) (m : MethodKind) (net net' : NetState) (c : Connected X)
@@ -156,9 +156,10 @@ rested_at mid new n server r now m net net' Refused at k = absurd k
 new_at : {X : Type 0} (mid new : History) (n : SessionNo) (server : ServerNo) (m : MethodKind) (net net' : NetState) (c : Connected X) → TriesNew mid new n server m net net' c
     → IsAt server.0 (conn_after c) × ((t : ThreadNo) → net.loop_no ≡ t.0 → ConnOnLoop t (conn_after c))
 new_at mid new n server m net net' (Begun busy fresh) k =
-    let o = k.1 in
-    (ap (λ (b : BusyNow). b.server.0) o.begins.1,
-    λ t is. ap (λ (b : BusyNow). b.link.on_loop) o.begins.1 ∙ ap (λ (l : ℕ). Some l) (ap (λ (s : NetState). s.loop_no) o.dialled.net ∙ is))
+    let o = k.1 in (
+      ap (λ (b : BusyNow). b.server.0) o.begins.1,
+      λ t is. ap (λ (b : BusyNow). b.link.on_loop) o.begins.1 ∙ ap (λ (l : ℕ). Some l) (ap (λ (s : NetState). s.loop_no) o.dialled.net ∙ is),
+    )
 new_at mid new n server m net net' Dead k = absurd k
 new_at mid new n server m net net' Refused k = (tt, λ t is. tt)
 
@@ -187,9 +188,9 @@ reaches_free : {X : Type 0} (old new : History) (n : SessionNo) (first : Bool) (
 reaches_free old new n first server now m net net' c here none k =
     let touch = connects_touch old new n first server now m net net' c here k in
     let at = ⊎_elim
-        (λ a. rested_at a.0 new n server a.1 now m net net' c ((one_seat old a.0 n first (shown a.1) a.2).server ∙ here) a.4)
-        (λ b. new_at b.0 new n server m net net' c b.2)
-        k in
+    (λ a. rested_at a.0 new n server a.1 now m net net' c ((one_seat old a.0 n first (shown a.1) a.2).server ∙ here) a.4)
+    (λ b. new_at b.0 new n server m net net' c b.2)
+    k in
     record {
       about = touch.seat.makes.makes.about;
       one = touch.seat.makes.makes.one;
@@ -225,7 +226,7 @@ reached_around t olds news n first server now m net net' held c has k a is =
     let at = held_at olds n server held has in
     let here : k.old.about.server ≡ server = server_same k.old.about.server server (numbered_here 0 server.0 olds k.old k.was a.servers ∙ omega arith) in
     let r = reaches_any k.old k.new n first server now m net net' held c here at (one_here t n (resting held) server.0 olds k.old a k.was)
-        (just_here t n (resting held) server.0 olds k.old a k.was at) k.tries in
+    (just_here t n (resting held) server.0 olds k.old a k.was at) k.tries in
     subst (HasAround t n (conn_after c)) (sym k.seats)
     (around_set t n (resting held) (conn_after c) server.0 olds k.old k.new k.was r.about r.one at r.at r.just (r.on_loop t is) (reached_never c k.new) a)
 
@@ -242,9 +243,9 @@ opened_about mid new n server m net net' Dead k = absurd k
 opened_about mid new n server m net net' Refused k = ⊎_elim
     (λ e. e.1.1.makes.about)
     (λ z. ⊎_elim
-        (λ x. x.0.makes.about ∙ z.2.1.makes.about)
-        (λ y. y.6.closes.makes.about ∙ z.2.1.makes.about)
-        z.3)
+    (λ x. x.0.makes.about ∙ z.2.1.makes.about)
+    (λ y. y.6.closes.makes.about ∙ z.2.1.makes.about)
+    z.3)
     k
 
 tries_about : {X : Type 0} (old new : History) (n : SessionNo) (first : Bool) (server : ServerNo) (now : ℕ) (m : MethodKind) (net net' : NetState) (held : Option RestedNow) (c : Connected X)
@@ -285,9 +286,10 @@ rested_begun mid new n server r now m net net' Refused at has k = tt
 new_begun : {X : Type 0} (mid new : History) (n : SessionNo) (server : ServerNo) (m : MethodKind) (net net' : NetState) (c : Connected X)
     → TriesNew mid new n server m net net' c → BegunAt new n server c
 new_begun mid new n server m net net' (Begun busy fresh) k =
-    let o = k.1 in
-    (ap (λ (b : BusyNow). b.server.0) o.begins.1,
-    subst (λ (i : ConnId). HasConn new n i) (sym (ap (λ (b : BusyNow). b.id) o.begins.1)) (has_new mid new n o.id o.opens))
+    let o = k.1 in (
+      ap (λ (b : BusyNow). b.server.0) o.begins.1,
+      subst (λ (i : ConnId). HasConn new n i) (sym (ap (λ (b : BusyNow). b.id) o.begins.1)) (has_new mid new n o.id o.opens),
+    )
 new_begun mid new n server m net net' Dead k = tt
 new_begun mid new n server m net net' Refused k = tt
 
@@ -295,7 +297,7 @@ tries_begun : {X : Type 0} (olds : List History) (old new : History) (n : Sessio
     → slice_get olds server.0 ≡ Some old → old.about.server ≡ server → HoldsTo olds n server held → TriesFor old new n first server now m net net' held c → BegunAt new n server c
 tries_begun olds old new n first server now m net net' None c there here has k = ⊎_elim
     (λ a. let at = one_seat old a.0 n first (shown a.1) a.2 in
-      rested_begun a.0 new n server a.1 now m net net' c (at.server ∙ here) (one_has old a.0 n first (shown a.1) a.2) a.4)
+    rested_begun a.0 new n server a.1 now m net net' c (at.server ∙ here) (one_has old a.0 n first (shown a.1) a.2) a.4)
     (λ b. new_begun b.0 new n server m net net' c b.2)
     k
 tries_begun olds old new n first server now m net net' (Some r) c there here has k =
@@ -335,9 +337,9 @@ settled_just old new n b net net' None just k =
     let v = shown (rested_of b) in ⊎_elim
     (λ p. parks_just old new n p.0 v (face_of b.id just.0) p.1 refl just.1)
     (λ x. let mid = x.0 in
-      let g = refused_just old mid n v x.1 (face_of b.id just.0) x.3 refl just.1 in
-      let ids : x.2.id ≡ g.0.id = ap (λ (s : Shown). s.face.id) x.5 ∙ sym g.1 in
-      closes_just mid new n g.0 (subst (λ (i : ConnId). Closes mid new n i) ids x.6.closes) g.2)
+    let g = refused_just old mid n v x.1 (face_of b.id just.0) x.3 refl just.1 in
+    let ids : x.2.id ≡ g.0.id = ap (λ (s : Shown). s.face.id) x.5 ∙ sym g.1 in
+    closes_just mid new n g.0 (subst (λ (i : ConnId). Closes mid new n i) ids x.6.closes) g.2)
     k.1
 
 settled_about : (old new : History) (n : SessionNo) (b : BusyNow) (net net' : NetState) (q : Option RestedNow) → SettlesAs old new n (rested_of b) net net' q → StandsInOneHistory old → (new.about ≡ old.about) × StandsInOneHistory new
@@ -346,8 +348,8 @@ settled_about old new n b net net' None k one =
     let v = shown (rested_of b) in ⊎_elim
     (λ p. (p.1.makes.makes.about, p.1.makes.makes.one))
     (λ x. let ids : x.2.id ≡ v.face.id = ap (λ (s : Shown). s.face.id) x.5 in
-      let e = refused_end old x.0 new n v x.1 x.3 (subst (λ (i : ConnId). Closes x.0 new n i) ids x.6.closes) in
-      (e.seat.makes.makes.about, e.seat.makes.makes.one))
+    let e = refused_end old x.0 new n v x.1 x.3 (subst (λ (i : ConnId). Closes x.0 new n i) ids x.6.closes) in
+    (e.seat.makes.makes.about, e.seat.makes.makes.one))
     k.1
 
 settled_at : (old new : History) (n : SessionNo) (b : BusyNow) (net net' : NetState) (q : Option RestedNow) → SettlesAs old new n (rested_of b) net net' q → IsAt b.server.0 (resting q)
@@ -376,20 +378,20 @@ pub rests_around : (t : ThreadNo) (olds news : List History) (n : SessionNo) (b 
     → HasAround t n (Some (Exchanging b)) olds → HasAround t n (resting q) news
 rests_around t olds news n b net net' q k a = ⊎_elim
     (λ s. let x = s.3 in
-      let j = b.server.0 in
-      let one = one_here t n (Some (Exchanging b)) j olds x.old a x.was in
-      let just = just_here t n (Some (Exchanging b)) j olds x.old a x.was refl in
-      let is = settled_about x.old x.new n b s.0 net' q x.settles one in
-      subst (HasAround t n (resting q)) (sym x.seats)
-      (around_set t n (Some (Exchanging b)) (resting q) j olds x.old x.new x.was is.0 is.1 refl (settled_at x.old x.new n b s.0 net' q x.settles)
-      (settled_just x.old x.new n b s.0 net' q just x.settles) (settled_on t x.old x.new n b s.0 net' q x.settles) (settled_never x.old x.new n b s.0 net' q x.settles) a))
+    let j = b.server.0 in
+    let one = one_here t n (Some (Exchanging b)) j olds x.old a x.was in
+    let just = just_here t n (Some (Exchanging b)) j olds x.old a x.was refl in
+    let is = settled_about x.old x.new n b s.0 net' q x.settles one in
+    subst (HasAround t n (resting q)) (sym x.seats)
+    (around_set t n (Some (Exchanging b)) (resting q) j olds x.old x.new x.was is.0 is.1 refl (settled_at x.old x.new n b s.0 net' q x.settles)
+    (settled_just x.old x.new n b s.0 net' q just x.settles) (settled_on t x.old x.new n b s.0 net' q x.settles) (settled_never x.old x.new n b s.0 net' q x.settles) a))
     (λ c. subst (λ (o : Option RestedNow). HasAround t n (resting o) news) (sym c.2) (busy_closed t n b olds news net net' c.3 a))
     k
 
 pub rests_abouts : (olds news : List History) (n : SessionNo) (b : BusyNow) (net net' : NetState) (q : Option RestedNow) → AtSeat olds b.server.0 (λ h. StandsInOneHistory h) → RestsAs olds news n b net net' q → abouts news ≡ abouts olds
 rests_abouts olds news n b net net' q one k = ⊎_elim
     (λ s. let x = s.3 in ap abouts x.seats ∙ abouts_set b.server.0 olds x.old x.new x.was
-      (settled_about x.old x.new n b s.0 net' q x.settles (subst StandsInOneHistory (some_same one.0 x.old (sym one.1 ∙ x.was)) one.2)).0)
+    (settled_about x.old x.new n b s.0 net' q x.settles (subst StandsInOneHistory (some_same one.0 x.old (sym one.1 ∙ x.was)) one.2)).0)
     (λ c. busy_abouts b.server.0 n b.id b.link olds news net net' c.3)
     k
 
@@ -403,14 +405,16 @@ rests_loop olds news n b net net' q k = ⊎_elim
 settled_held : (olds : List History) (old new : History) (n : SessionNo) (b : BusyNow) (net net' : NetState) (q : Option RestedNow) → slice_get olds b.server.0 ≡ Some old → HasConn old n b.id
     → SettlesAs old new n (rested_of b) net net' q → HasHeld (slice_set olds b.server.0 new) n q
 settled_held olds old new n b net net' None there has k = tt
-settled_held olds old new n b net net' (Some r) there has k =
-    (new, subst (λ (x : RestedNow). slice_get (slice_set olds b.server.0 new) x.server.0 ≡ Some new) (sym k.1) (seat_set b.server.0 olds old new there),
-    subst (λ (h : History). HasConn h n r.id) (sym k.2) (subst (λ (x : RestedNow). HasConn old n x.id) (sym k.1) has))
+settled_held olds old new n b net net' (Some r) there has k = (
+  new,
+  subst (λ (x : RestedNow). slice_get (slice_set olds b.server.0 new) x.server.0 ≡ Some new) (sym k.1) (seat_set b.server.0 olds old new there),
+  subst (λ (h : History). HasConn h n r.id) (sym k.2) (subst (λ (x : RestedNow). HasConn old n x.id) (sym k.1) has),
+)
 
 pub rests_held : (olds news : List History) (n : SessionNo) (b : BusyNow) (net net' : NetState) (q : Option RestedNow) → AtSeat olds b.server.0 (λ h. HasConn h n b.id) → RestsAs olds news n b net net' q → HasHeld news n q
 rests_held olds news n b net net' q has k = ⊎_elim
     (λ s. let x = s.3 in subst (λ (hs : List History). HasHeld hs n q) (sym x.seats)
-      (settled_held olds x.old x.new n b s.0 net' q x.was (subst (λ (h : History). HasConn h n b.id) (some_same has.0 x.old (sym has.1 ∙ x.was)) has.2) x.settles))
+    (settled_held olds x.old x.new n b s.0 net' q x.was (subst (λ (h : History). HasConn h n b.id) (some_same has.0 x.old (sym has.1 ∙ x.was)) has.2) x.settles))
     (λ c. subst (λ (o : Option RestedNow). HasHeld news n o) (sym c.2) tt)
     k
 

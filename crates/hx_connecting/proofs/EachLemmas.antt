@@ -46,12 +46,14 @@ each_none n g i (h ∷ hs) all none =
 pub each_set : (n : SessionNo) (g : ℕ → List Entry) (i j : ℕ) (olds : List History) (h new : History) → AllStand olds → slice_get olds j ≡ Some h → SeatMarks h new n (g (i + j))
     → ((k : ℕ) → i ≤ k → (k ≡ i + j → ⊥) → g k ≡ []) → EachMarks n g i olds (slice_set olds j new)
 each_set n g i j [] h new all there one none = cc
-each_set n g i zero (o ∷ olds) h new all there one none =
-    (subst (λ (q : History). SeatMarks q new n (g i)) (sym (some_is o h there)) (subst (λ (k : ℕ). SeatMarks h new n (g k)) (omega arith) one),
-    each_none n g (i + 1) olds all.1 (λ k le. none k (omega (arith, le)) (λ e. omega (arith, le, e))))
-each_set n g i (suc j) (o ∷ olds) h new all there one none =
-    (subst (λ (l : List Entry). SeatMarks o o n l) (sym (none i (omega arith) (λ e. omega (arith, e)))) (same_seat o n all.0),
-    each_set n g (i + 1) j olds h new all.1 there (subst (λ (k : ℕ). SeatMarks h new n (g k)) (omega arith) one) (λ k le ne. none k (omega (arith, le)) (λ e. ne (omega (arith, e)))))
+each_set n g i zero (o ∷ olds) h new all there one none = (
+  subst (λ (q : History). SeatMarks q new n (g i)) (sym (some_is o h there)) (subst (λ (k : ℕ). SeatMarks h new n (g k)) (omega arith) one),
+  each_none n g (i + 1) olds all.1 (λ k le. none k (omega (arith, le)) (λ e. omega (arith, le, e))),
+)
+each_set n g i (suc j) (o ∷ olds) h new all there one none = (
+  subst (λ (l : List Entry). SeatMarks o o n l) (sym (none i (omega arith) (λ e. omega (arith, e)))) (same_seat o n all.0),
+  each_set n g (i + 1) j olds h new all.1 there (subst (λ (k : ℕ). SeatMarks h new n (g k)) (omega arith) one) (λ k le ne. none k (omega (arith, le)) (λ e. ne (omega (arith, e)))),
+)
 
 pub each_both : (n : SessionNo) (f g : ℕ → List Entry) (i : ℕ) (xs bs cs : List History) → EachMarks n f i xs bs → EachMarks n g i bs cs → EachMarks n (λ k. f k ++ g k) i xs cs
 each_both n f g i [] [] [] x y = tt

@@ -63,9 +63,9 @@ new_holds mid new n server m net net' Dead k none = absurd k
 new_holds mid new n server m net net' Refused k none = ⊎_elim
     (λ e. held_apart mid new n [] e.1.1.makes tt ∙ none)
     (λ z. let just = opens_just mid z.0 n z.1 z.2 none in ⊎_elim
-        (λ x. closes_just z.0 new n (face_of z.1 0) x.0 just)
-        (λ y. closes_just z.0 new n (face_of z.1 0) y.6.closes just)
-        z.3)
+    (λ x. closes_just z.0 new n (face_of z.1 0) x.0 just)
+    (λ y. closes_just z.0 new n (face_of z.1 0) y.6.closes just)
+    z.3)
     k
 
 -- a session that held nothing at the seat holds just the connection on which its exchange began

@@ -70,24 +70,24 @@ refused_end old mid new n v RowFull r k =
     let f = r.2 in plain_end old mid new n v.face.id (record { added = f.looks.looks; makes = record { makes = f.looks.makes; passed = f.passed }; marked = marked_looks n old.about.thread f.looks.looks f.looks.looked }) k
 refused_end old mid new n v Draining r k = let t = old.about.thread in ⊎_elim
     (λ (d : FindsDraining old mid). plain_end old mid new n v.face.id
-        (record { added = d.looks ++ plain (Gate t true) ∷ []; makes = d.makes; marked = marked_both n d.looks (plain (Gate t true) ∷ []) [] [] (marked_looks n t d.looks d.looked) (marked_gate n t true) }) k)
+    (record { added = d.looks ++ plain (Gate t true) ∷ []; makes = d.makes; marked = marked_both n d.looks (plain (Gate t true) ∷ []) [] [] (marked_looks n t d.looks d.looked) (marked_gate n t true) }) k)
     (λ (b : TakesBack old mid n v).
-        let park : List Entry = Park t n v.face.id b.place v.face.uses ∷ [] in
-        let back : List Entry = Take t n false b.place v.face.id v.face.uses ∷ [] in
-        let back_es : List Note = taking t n false b.place v.face b.down in
-        record {
-          went = EndsTakenBack b.place v.face.uses;
-          closed = tt;
-          seat = ends old mid new n v.face.id (park ++ back)
-              (record {
-                added = gated t b.looks (plain (Up t b.count) ∷ parked t n b.place v ∷ plain (Gate t true) ∷ back_es);
-                makes = b.makes;
-                marked = marked_gated n t b.looks (plain (Up t b.count) ∷ parked t n b.place v ∷ plain (Gate t true) ∷ back_es) (park ++ back) b.looked
-                    (marked_both n (plain (Up t b.count) ∷ parked t n b.place v ∷ []) (plain (Gate t true) ∷ back_es) park back (marked_park t n b.place v b.count)
-                    (marked_both n (plain (Gate t true) ∷ []) back_es [] back (marked_gate n t true) (marked_taking t n false b.place v.face b.down)));
-              })
-              k;
-        })
+    let park : List Entry = Park t n v.face.id b.place v.face.uses ∷ [] in
+    let back : List Entry = Take t n false b.place v.face.id v.face.uses ∷ [] in
+    let back_es : List Note = taking t n false b.place v.face b.down in
+    record {
+      went = EndsTakenBack b.place v.face.uses;
+      closed = tt;
+      seat = ends old mid new n v.face.id (park ++ back)
+          (record {
+            added = gated t b.looks (plain (Up t b.count) ∷ parked t n b.place v ∷ plain (Gate t true) ∷ back_es);
+            makes = b.makes;
+            marked = marked_gated n t b.looks (plain (Up t b.count) ∷ parked t n b.place v ∷ plain (Gate t true) ∷ back_es) (park ++ back) b.looked
+                (marked_both n (plain (Up t b.count) ∷ parked t n b.place v ∷ []) (plain (Gate t true) ∷ back_es) park back (marked_park t n b.place v b.count)
+                (marked_both n (plain (Gate t true) ∷ []) back_es [] back (marked_gate n t true) (marked_taking t n false b.place v.face b.down)));
+          })
+          k;
+    })
     r.2
 refused_end old mid new n v (PoolFull c) r k =
     let p = r.2 in let t = old.about.thread in plain_end old mid new n v.face.id

@@ -184,16 +184,19 @@ rested_touch old mid new n first server r now m net net' (Begun busy fresh) here
       at_server = refl;
       seat = subst (λ (h : History). SeatMarks old h n (Take old.about.thread n first at.place r.id r.uses ∷ [])) (sym k.0) at.seat;
       comes = (ids, refl);
-      goes = λ s s' es none has. (record {
-        before = Some (what_of_link r.link);
-        after = Some (what_of_link busy.link);
-        gone = None;
-        was = (none, (at.H, at.later, what_of_link r.link, ap (λ (h : History). h.seen) k.0 ∙ at.seen, at.what, refl));
-        is = (refl, (Exchanging busy, (has, srv, sym ids), refl));
-        same = begun_same r k.2.0 now busy net.loop_no k.2.1 loops;
-        dials = attach_dials net net' k.2.2.0.0;
-        buries = gains_eq net.buried net'.buried (ap (λ (q : NetState). q.buried) k.2.2.0.0.0);
-      }, λ served. (Exchanging busy, has, took_goes r k.2.0 now m net net' busy rested k.2.1 k.2.2));
+      goes = λ s s' es none has. (
+        record {
+          before = Some (what_of_link r.link);
+          after = Some (what_of_link busy.link);
+          gone = None;
+          was = (none, (at.H, at.later, what_of_link r.link, ap (λ (h : History). h.seen) k.0 ∙ at.seen, at.what, refl));
+          is = (refl, (Exchanging busy, (has, srv, sym ids), refl));
+          same = begun_same r k.2.0 now busy net.loop_no k.2.1 loops;
+          dials = attach_dials net net' k.2.2.0.0;
+          buries = gains_eq net.buried net'.buried (ap (λ (q : NetState). q.buried) k.2.2.0.0.0);
+        },
+        λ served. (Exchanging busy, has, took_goes r k.2.0 now m net net' busy rested k.2.1 k.2.2),
+      );
     }
 rested_touch old mid new n first server r now m net net' Dead here rested f k =
     let at = one_seat old mid n first (shown r) f in
@@ -204,17 +207,29 @@ rested_touch old mid new n first server r now m net net' Dead here rested f k =
       at_server = refl;
       seat = seat_then old mid new n (Take old.about.thread n first at.place r.id r.uses ∷ []) (λ t. Close t n r.id) at.seat (closes_seat mid new n r.id k.3.closes);
       comes = refl;
-      goes = λ s s' es none has. (record {
-        before = Some (what_of_link r.link);
-        after = Some (what_of_link k.1);
-        gone = Some k.1;
-        was = (none, (at.H, at.later ++ k.3.closes.makes.seen.0, what_of_link r.link,
-            k.3.closes.makes.seen.1 ∙ (ap (λ (l : List Note). l ++ k.3.closes.makes.seen.0) at.seen ∙ append_assoc at.H at.later k.3.closes.makes.seen.0), at.what, refl));
-        is = (has, (subst (λ (q : ServerNo). TellsDial q r.id k.1) (at.server ∙ here) dies.dial, refl));
-        same = dies.same;
-        dials = bury_dials net k.0 net' k.1 dies.dials dies.course buried;
-        buries = bury_gains net.buried k.0.buried net'.buried k.1 dies.buried buried.3;
-      }, λ served. tt);
+      goes = λ s s' es none has. (
+        record {
+          before = Some (what_of_link r.link);
+          after = Some (what_of_link k.1);
+          gone = Some k.1;
+          was = (
+            none,
+            (
+              at.H,
+              at.later ++ k.3.closes.makes.seen.0,
+              what_of_link r.link,
+              k.3.closes.makes.seen.1 ∙ (ap (λ (l : List Note). l ++ k.3.closes.makes.seen.0) at.seen ∙ append_assoc at.H at.later k.3.closes.makes.seen.0),
+              at.what,
+              refl,
+            ),
+          );
+          is = (has, (subst (λ (q : ServerNo). TellsDial q r.id k.1) (at.server ∙ here) dies.dial, refl));
+          same = dies.same;
+          dials = bury_dials net k.0 net' k.1 dies.dials dies.course buried;
+          buries = bury_gains net.buried k.0.buried net'.buried k.1 dies.buried buried.3;
+        },
+        λ served. tt,
+      );
     }
 rested_touch old mid new n first server r now m net net' Refused here rested f k = absurd k
 
@@ -236,25 +251,35 @@ new_touch old mid new n first server m net net' (Begun busy fresh) f k =
       at_server = refl;
       seat = opened_seat old mid new n first o.id f o.opens;
       comes = (ids, refl);
-      goes = λ s s' es none has. (record {
-        before = None;
-        after = Some (what_of_link busy.link);
-        gone = None;
-        was = (none, refl);
-        is = (refl, (Exchanging busy, (has, ap (λ (b : BusyNow). b.server) o.begins.1, sym ids), refl));
-        same = tt;
-        dials = (true, o.link.tag,
+      goes = λ s s' es none has. (
+        record {
+          before = None;
+          after = Some (what_of_link busy.link);
+          gone = None;
+          was = (none, refl);
+          is = (refl, (Exchanging busy, (has, ap (λ (b : BusyNow). b.server) o.begins.1, sym ids), refl));
+          same = tt;
+          dials = (
+            true,
+            o.link.tag,
             gains_dial (told_dial server o.id true o.link.tag) net.dials o.net.dials net'.dials d.dials (inl (ap (λ (q : NetState). q.dials) o.begins.0.0.0)),
             follows_stays server o.id net.course o.link net' (what_of_link busy.link) d.follows (ap (λ (l : LinkState). l.plan) links),
             subst (λ (q : Option Course). LeavesPlans (without_next server (plans_of net.course)) net.course q) (sym (ap (λ (q : NetState). q.course) o.begins.0.0.0 ∙ ap (λ (q : NetState). option_map attached q.course) d.net))
                 (course_attached (without_next server (plans_of net.course)) net.course (option_map (after_dial server) net.course) (course_dialled server net.course)),
-            inl (refl, (what_of_link busy.link, refl, ap (λ (l : LinkState). l.tag) links)));
-        buries = subst (λ (q : Option (List LinkState)). GainsAll [] net.buried q) (sym (ap (λ (q : NetState). q.buried) o.begins.0.0.0)) (gains_stay net.buried o.net.buried d.buried);
-      }, λ served. (Exchanging busy, has, record {
-        uses_are = ap (λ (b : BusyNow). b.uses) o.begins.1;
-        sent_from = ap (λ (b : BusyNow). b.exchange.sent_from) o.begins.1 ∙ d.fresh.fresh.sent_count;
-        taken_from = ap (λ (b : BusyNow). b.exchange.taken_from) o.begins.1 ∙ d.fresh.fresh.taken_count;
-      }));
+            inl (refl, (what_of_link busy.link, refl, ap (λ (l : LinkState). l.tag) links)),
+          );
+          buries = subst (λ (q : Option (List LinkState)). GainsAll [] net.buried q) (sym (ap (λ (q : NetState). q.buried) o.begins.0.0.0)) (gains_stay net.buried o.net.buried d.buried);
+        },
+        λ served. (
+          Exchanging busy,
+          has,
+          record {
+            uses_are = ap (λ (b : BusyNow). b.uses) o.begins.1;
+            sent_from = ap (λ (b : BusyNow). b.exchange.sent_from) o.begins.1 ∙ d.fresh.fresh.sent_count;
+            taken_from = ap (λ (b : BusyNow). b.exchange.taken_from) o.begins.1 ∙ d.fresh.fresh.taken_count;
+          },
+        ),
+      );
     }
 new_touch old mid new n first server m net net' Dead f k = absurd k
 new_touch old mid new n first server m net net' Refused f k = ⊎_elim
@@ -271,46 +296,60 @@ new_touch old mid new n first server m net net' Refused f k = ⊎_elim
       };
     })
     (λ z. let near = z.0 in let id = z.1 in ⊎_elim
-        (λ x. let d = x.1 in record {
-          touch = Some (record { server = server; id = id; came = Opened; went = Ends });
-          at_server = refl;
-          seat = failed_seat old mid near new n first id f z.2 x.0;
-          comes = (refl, refl);
-          goes = λ s s' es none has. (record {
-            before = None;
-            after = None;
-            gone = None;
-            was = (none, refl);
-            is = (has, (refl, refl));
-            same = tt;
-            dials = (false, None, gains_dial (told_dial server id false None) net.dials net'.dials net'.dials d.dials (inl refl), fails_none server id net.course net' d.none,
-                subst (λ (q : Option Course). LeavesPlans (without_next server (plans_of net.course)) net.course q) (sym (ap (λ (q : NetState). q.course) d.net)) (course_dialled server net.course),
-                inr (refl, refl, d.fault.1));
-            buries = gains_stay net.buried net'.buried d.buried;
-          }, λ served. tt);
-        })
-        (λ y. let link = y.0 in let net1 = y.1 in let net2 = y.2 in let d = y.4 in let dead = y.5 in let b = y.6.buries in record {
-          touch = Some (record { server = server; id = id; came = Opened; went = Ends });
-          at_server = refl;
-          seat = failed_seat old mid near new n first id f z.2 y.6.closes;
-          comes = (refl, refl);
-          goes = λ s s' es none has. (record {
-            before = None;
-            after = Some (what_of_link link);
-            gone = Some link;
-            was = (none, refl);
-            is = (has, (d.fresh.dial, refl));
-            same = tt;
-            dials = (true, link.tag,
-                gains_dial (told_dial server id true link.tag) net.dials net1.dials net'.dials d.dials (subst (λ (q : Option (List DialTold)). StaysTold q net'.dials) (ap (λ (q : NetState). q.dials) dead.0.0) b.2),
-                follows_ends server id net.course net1.course link net' (what_of_link link) (ap (λ (q : NetState). q.course) d.net) d.follows refl dead.1,
-                subst (λ (q : Option Course). LeavesPlans (without_next server (plans_of net.course)) net.course q) (sym (ap (λ (q : NetState). q.course) b.0 ∙ (ap (λ (q : NetState). q.course) dead.0.0 ∙ ap (λ (q : NetState). option_map attached q.course) d.net)))
-                    (course_attached (without_next server (plans_of net.course)) net.course (option_map (after_dial server) net.course) (course_dialled server net.course)),
-                inl (refl, (what_of_link link, refl, refl)));
-            buries = opened_buries net.buried net1.buried net2.buried net'.buried link d.buried (ap (λ (q : NetState). q.buried) dead.0.0) b.3;
-          }, λ served. tt);
-        })
-        z.3)
+    (λ x. let d = x.1 in record {
+      touch = Some (record { server = server; id = id; came = Opened; went = Ends });
+      at_server = refl;
+      seat = failed_seat old mid near new n first id f z.2 x.0;
+      comes = (refl, refl);
+      goes = λ s s' es none has. (
+        record {
+          before = None;
+          after = None;
+          gone = None;
+          was = (none, refl);
+          is = (has, (refl, refl));
+          same = tt;
+          dials = (
+            false,
+            None,
+            gains_dial (told_dial server id false None) net.dials net'.dials net'.dials d.dials (inl refl),
+            fails_none server id net.course net' d.none,
+            subst (λ (q : Option Course). LeavesPlans (without_next server (plans_of net.course)) net.course q) (sym (ap (λ (q : NetState). q.course) d.net)) (course_dialled server net.course),
+            inr (refl, refl, d.fault.1),
+          );
+          buries = gains_stay net.buried net'.buried d.buried;
+        },
+        λ served. tt,
+      );
+    })
+    (λ y. let link = y.0 in let net1 = y.1 in let net2 = y.2 in let d = y.4 in let dead = y.5 in let b = y.6.buries in record {
+      touch = Some (record { server = server; id = id; came = Opened; went = Ends });
+      at_server = refl;
+      seat = failed_seat old mid near new n first id f z.2 y.6.closes;
+      comes = (refl, refl);
+      goes = λ s s' es none has. (
+        record {
+          before = None;
+          after = Some (what_of_link link);
+          gone = Some link;
+          was = (none, refl);
+          is = (has, (d.fresh.dial, refl));
+          same = tt;
+          dials = (
+            true,
+            link.tag,
+            gains_dial (told_dial server id true link.tag) net.dials net1.dials net'.dials d.dials (subst (λ (q : Option (List DialTold)). StaysTold q net'.dials) (ap (λ (q : NetState). q.dials) dead.0.0) b.2),
+            follows_ends server id net.course net1.course link net' (what_of_link link) (ap (λ (q : NetState). q.course) d.net) d.follows refl dead.1,
+            subst (λ (q : Option Course). LeavesPlans (without_next server (plans_of net.course)) net.course q) (sym (ap (λ (q : NetState). q.course) b.0 ∙ (ap (λ (q : NetState). q.course) dead.0.0 ∙ ap (λ (q : NetState). option_map attached q.course) d.net)))
+                (course_attached (without_next server (plans_of net.course)) net.course (option_map (after_dial server) net.course) (course_dialled server net.course)),
+            inl (refl, (what_of_link link, refl, refl)),
+          );
+          buries = opened_buries net.buried net1.buried net2.buried net'.buried link d.buried (ap (λ (q : NetState). q.buried) dead.0.0) b.3;
+        },
+        λ served. tt,
+      );
+    })
+    z.3)
     k
 
 pub connects_touch : {X : Type 0} (old new : History) (n : SessionNo) (first : Bool) (server : ServerNo) (now : ℕ) (m : MethodKind) (net net' : NetState) (c : Connected X)

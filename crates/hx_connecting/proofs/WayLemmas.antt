@@ -52,7 +52,7 @@ same_of : (a b : LinkState) → b.tag ≡ a.tag → b.plan ≡ a.plan → a.faul
     → IsSameLink (what_of_link a) (what_of_link b)
 same_of a b tag plan faults (k, ke) (m, me) ended =
     let same : whats.told_of b.sent b.taken b.told_end ≡ whats.told_of (option_map (λ xs. xs ++ k) a.sent) (option_map (λ xs. xs ++ m) a.taken) b.told_end =
-        ap (λ (s : Option (List ℕ)). whats.told_of s b.taken b.told_end) ke ∙ ap (λ (t : Option (List ℕ)). whats.told_of (option_map (λ xs. xs ++ k) a.sent) t b.told_end) me in
+    ap (λ (s : Option (List ℕ)). whats.told_of s b.taken b.told_end) ke ∙ ap (λ (t : Option (List ℕ)). whats.told_of (option_map (λ xs. xs ++ k) a.sent) t b.told_end) me in
     record {
       tag = tag;
       plan = plan;
@@ -123,9 +123,11 @@ begins_told b u sc tc (Some s) (Some t) ended hs ht k = record { uses_are = k.us
 pub took_goes : (r p : RestedNow) (now : ℕ) (m : MethodKind) (net net' : NetState) (b : BusyNow) → IsRested r → ProbesOk r now p → BeginsOk p m net net' b → TookGoes (Some (what_of_link r.link)) r.uses (Exchanging b)
 took_goes r p now m net net' b rested probes begins =
     let counts = probe_counts r now p.link probes.1 in
-    let uses : b.uses ≡ r.uses = ap (λ (x : BusyNow). x.uses) begins.1 ∙ ap (λ (q : RestedNow). q.uses) probes.0 in
-    (uses, begins_told b r.uses r.link.sent_count r.link.taken_count r.link.sent r.link.taken r.link.told_end rested.counted.sent rested.counted.taken
-        (record { uses_are = uses; sent_from = ap (λ (x : BusyNow). x.exchange.sent_from) begins.1 ∙ counts.0; taken_from = ap (λ (x : BusyNow). x.exchange.taken_from) begins.1 ∙ counts.1 }))
+    let uses : b.uses ≡ r.uses = ap (λ (x : BusyNow). x.uses) begins.1 ∙ ap (λ (q : RestedNow). q.uses) probes.0 in (
+      uses,
+      begins_told b r.uses r.link.sent_count r.link.taken_count r.link.sent r.link.taken r.link.told_end rested.counted.sent rested.counted.taken
+          (record { uses_are = uses; sent_from = ap (λ (x : BusyNow). x.exchange.sent_from) begins.1 ∙ counts.0; taken_from = ap (λ (x : BusyNow). x.exchange.taken_from) begins.1 ∙ counts.1 }),
+    )
 
 pub gains_eq : {A : Type 0} (a b : Option (List A)) → b ≡ a → GainsAll [] a b
 gains_eq a b e = gains_stay a b (inl e)
@@ -134,9 +136,10 @@ leaves_eq : (plans : List Plan) (o p q : Option Course) → q ≡ p → LeavesPl
 leaves_eq plans o p q e l = subst (λ x. LeavesPlans plans o x) (sym e) l
 
 pub attach_dials : (net net' : NetState) → AttachCounted net net' → GainsAll [] net.dials net'.dials × CourseStays net net'
-attach_dials net net' k =
-    (gains_eq net.dials net'.dials (ap (λ (q : NetState). q.dials) k.0),
-    leaves_eq (plans_of net.course) net.course (option_map attached net.course) net'.course (ap (λ (q : NetState). q.course) k.0) (course_attached (plans_of net.course) net.course net.course (course_stays net.course)))
+attach_dials net net' k = (
+  gains_eq net.dials net'.dials (ap (λ (q : NetState). q.dials) k.0),
+  leaves_eq (plans_of net.course) net.course (option_map attached net.course) net'.course (ap (λ (q : NetState). q.course) k.0) (course_attached (plans_of net.course) net.course net.course (course_stays net.course)),
+)
 
 pub record DiesSo (r : RestedNow) (link : LinkState) (net net' : NetState) : Type 0 where
   pub same : IsSameLink (what_of_link r.link) (what_of_link link)
@@ -173,9 +176,10 @@ dies_so r now link net net' rested d = ⊎_elim
     d
 
 pub bury_dials : (net mid net' : NetState) (link : LinkState) → mid.dials ≡ net.dials → CourseStays net mid → NetBuries mid net' link → GainsAll [] net.dials net'.dials × CourseStays net net'
-bury_dials net mid net' link dials course k =
-    (subst (λ o. GainsAll [] o net'.dials) dials (gains_stay mid.dials net'.dials k.2),
-    leaves_eq (plans_of net.course) net.course mid.course net'.course (ap (λ (q : NetState). q.course) k.0) course)
+bury_dials net mid net' link dials course k = (
+  subst (λ o. GainsAll [] o net'.dials) dials (gains_stay mid.dials net'.dials k.2),
+  leaves_eq (plans_of net.course) net.course mid.course net'.course (ap (λ (q : NetState). q.course) k.0) course,
+)
 
 pub bury_gains : (old mid new : Option (List LinkState)) (link : LinkState) → mid ≡ old → GainsTold link mid new → GainsAll (link ∷ []) old new
 bury_gains old mid new link e g = subst (λ o. GainsAll (link ∷ []) o new) e (⊎_elim (λ x. inl x) (λ x. inr x) g)
@@ -248,12 +252,16 @@ same_then a b c x y = record {
   where
     on : (k : LinkTold) (d : LinkTold) → b.told ≡ Some d → GrowsTold k d → (e : LinkTold) × (c.told ≡ Some e) × GrowsTold k e
     on k d e g =
-        let z = subst (λ (o : Option LinkTold). IfSome o (λ q. (e : LinkTold) × (c.told ≡ Some e) × GrowsTold q e)) e y.told in
-        (z.0, z.1, record {
-          sent = (g.sent.0 ++ z.2.sent.0, z.2.sent.1 ∙ (ap (λ l. l ++ z.2.sent.0) g.sent.1 ∙ append_assoc k.sent g.sent.0 z.2.sent.0));
-          taken = (g.taken.0 ++ z.2.taken.0, z.2.taken.1 ∙ (ap (λ l. l ++ z.2.taken.0) g.taken.1 ∙ append_assoc k.taken g.taken.0 z.2.taken.0));
-          ended = λ q. z.2.ended (g.ended q);
-        })
+        let z = subst (λ (o : Option LinkTold). IfSome o (λ q. (e : LinkTold) × (c.told ≡ Some e) × GrowsTold q e)) e y.told in (
+          z.0,
+          z.1,
+          record {
+            sent = (g.sent.0 ++ z.2.sent.0, z.2.sent.1 ∙ (ap (λ l. l ++ z.2.sent.0) g.sent.1 ∙ append_assoc k.sent g.sent.0 z.2.sent.0));
+            taken = (g.taken.0 ++ z.2.taken.0, z.2.taken.1 ∙ (ap (λ l. l ++ z.2.taken.0) g.taken.1 ∙ append_assoc k.taken g.taken.0 z.2.taken.0));
+            ended = λ q. z.2.ended (g.ended q);
+          },
+        )
+
     by_told : (t : Option LinkTold) → IfSome t (λ k. (d : LinkTold) × (b.told ≡ Some d) × GrowsTold k d) → IfSome t (λ k. (e : LinkTold) × (c.told ≡ Some e) × GrowsTold k e)
     by_told None h = tt
     by_told (Some k) h = on k h.0 h.1 h.2

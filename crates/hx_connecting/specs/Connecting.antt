@@ -75,7 +75,10 @@ first_rested link id server = record { link = link; id = id; server = server; us
 -- a dial that failed
 pub record FailsDial (server : ServerNo) (id : ConnId) (net_old net_new : NetState) : Type 0 where
   pub net : net_new ≡ record net_old {
-    faults = net_new.faults; dials = net_new.dials; buried = net_new.buried; course = option_map (after_dial server) net_old.course;
+    faults = net_new.faults;
+    dials = net_new.dials;
+    buried = net_new.buried;
+    course = option_map (after_dial server) net_old.course;
   }
   pub none : HasNoNext server net_old.course net_new
   pub dials : GainsTold (told_dial server id false None) net_old.dials net_new.dials

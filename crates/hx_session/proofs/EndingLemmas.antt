@@ -42,9 +42,10 @@ may_rest b a is none =
     let one = not_first (not e.asked) AskOpen (first_of opens) none in
     let two = not_first (is_none e.answer) AnswerOpen (first_of lefts) one.1 in
     let three = not_first (has_leftover e b.link.taken_count e.answer) Leftover (first_of lasts) two.1 in
-    let four = not_first (not (is_persistent e.answer)) NoPersistence (first_of faults) three.1 in
-    (subst (λ (o : Option AnswerEnd). has_leftover e b.link.taken_count o ≡ false) is three.0,
-    not_not a.persistent (subst (λ (o : Option AnswerEnd). not (is_persistent o) ≡ false) is four.0))
+    let four = not_first (not (is_persistent e.answer)) NoPersistence (first_of faults) three.1 in (
+      subst (λ (o : Option AnswerEnd). has_leftover e b.link.taken_count o ≡ false) is three.0,
+      not_not a.persistent (subst (λ (o : Option AnswerEnd). not (is_persistent o) ≡ false) is four.0),
+    )
 
 ends_told : (b b1 : BusyNow) (a : AnswerEnd) (c : Carried) (s t : Option (List ℕ)) (ended : Bool) → IfSome s (λ x. length x ≡ b1.link.sent_count) → IfSome t (λ x. length x ≡ b1.link.taken_count)
     → b1.exchange.method ≡ b.exchange.method → c.sent.to ≡ b1.link.sent_count → c.took ≡ span b1.exchange.taken_from (b1.exchange.taken_from + a.len)

@@ -105,9 +105,10 @@ unfolding are_numbered
 serves_numbered t n [] [] e k = tt
 serves_numbered t n [] (s ∷ ss) e k = absurd k
 serves_numbered t n (h ∷ seats) [] e k = absurd k
-serves_numbered t n (h ∷ seats) (s ∷ ss) e k =
-    (ap (λ (v : ServerNo). v.0) k.2 ∙ eqb-true s.no.0 n (and_left (s.no.0 == n) (are_numbered (n + 1) ss) e),
-    serves_numbered t (n + 1) seats ss (and_right (s.no.0 == n) (are_numbered (n + 1) ss) e) k.3)
+serves_numbered t n (h ∷ seats) (s ∷ ss) e k = (
+  ap (λ (v : ServerNo). v.0) k.2 ∙ eqb-true s.no.0 n (and_left (s.no.0 == n) (are_numbered (n + 1) ss) e),
+  serves_numbered t (n + 1) seats ss (and_right (s.no.0 == n) (are_numbered (n + 1) ss) e) k.3,
+)
 
 -- the seat with a place is its server's
 serves_at : (t : ThreadNo) (seats : List History) (ss : List Server) (j : ℕ) → j < length seats → SeatsServe t seats ss
@@ -218,8 +219,12 @@ entry_placed config front d (Choosing c) seats numbered sound going serves holds
 entry_placed config front d (Exchanging e) seats numbered sound going serves holds b have goes =
     let around = entry_around config d.worker d.session (Some (seen.Exchanging e.busy)) seats numbered serves holds going.never going.loops.conn b have (goes.to_conn) in
     record {
-      set = record { stands = sound.0; numbered = record { counted = sound.2; on_loop = going.loops.client }; around = around;
-          own = conn_own d.worker d.session (seen.Exchanging e.busy) seats around (routed_seat b e.busy.server (length seats) have goes.to_conn) };
+      set = record {
+        stands = sound.0;
+        numbered = record { counted = sound.2; on_loop = going.loops.client };
+        around = around;
+        own = conn_own d.worker d.session (seen.Exchanging e.busy) seats around (routed_seat b e.busy.server (length seats) have goes.to_conn);
+      };
       good = sound.1;
     }
 entry_placed config front d (Answering a) seats numbered sound going serves holds b have goes =

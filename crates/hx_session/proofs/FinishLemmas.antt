@@ -50,7 +50,7 @@ since_front None total from xs ys P h p = tt
 since_front (Some all) total from xs ys P h p =
     let before = h.bytes_are.0 in
     let dropped : drop from all ≡ xs ++ ys =
-        ap (λ (k : ℕ). drop k all) (sym h.bytes_are.1) ∙ (ap (λ (l : List ℕ). drop (length before) l) h.bytes_are.2 ∙ drop-append_seam before (xs ++ ys)) in
+    ap (λ (k : ℕ). drop k all) (sym h.bytes_are.1) ∙ (ap (λ (l : List ℕ). drop (length before) l) h.bytes_are.2 ∙ drop-append_seam before (xs ++ ys)) in
     subst P (sym (ap (λ (l : List ℕ). take (length xs) l) dropped ∙ take-append_seam xs ys)) p
 
 and_left : (a b : Bool) → (a && b) ≡ true → a ≡ true
@@ -78,13 +78,17 @@ answer_whole d e b persistent c over lasts =
     let End : Type 0 = (e.ended ≡ true) × (d.down.bytes ≡ []) in
     let ends = whole_way b m r.taken r.put body.head body.kind End body.way body.state body.to_end over.ends in
     let all_there : d.down.bytes ≡ [] → from + e.answered ≡ e.busy.link.taken_count =
-        λ none. omega (arith, r.front.count, r.answered, length-append r.taken d.down.bytes, ap length none) in
+    λ none. omega (arith, r.front.count, r.answered, length-append r.taken d.down.bytes, ap length none) in
     let whole : IsWholeAnswer m r.taken ((e.busy.link.told_end ≡ true) × (from + e.answered ≡ e.busy.link.taken_count)) =
-        (body.head, body.kind, ends.0, λ x. let end = ends.1 x in (c.ended end.0, all_there end.1)) in
+    (body.head, body.kind, ends.0, λ x. let end = ends.1 x in (c.ended end.0, all_there end.1)) in
     let lasting : persistent ≡ true → Persists m r.taken = λ e2.
-        let both : (b.persists && not b.to_end) ≡ true = sym lasts ∙ e2 in
-        (body.head, body.kind, ends.0, sym body.lasts ∙ and_left b.persists (not b.to_end) both,
-        λ x. true_false (sym (body.to_end.1 x) ∙ not_false b.to_end (and_right b.persists (not b.to_end) both))) in
+    let both : (b.persists && not b.to_end) ≡ true = sym lasts ∙ e2 in (
+      body.head,
+      body.kind,
+      ends.0,
+      sym body.lasts ∙ and_left b.persists (not b.to_end) both,
+      λ x. true_false (sym (body.to_end.1 x) ∙ not_false b.to_end (and_right b.persists (not b.to_end) both)),
+    ) in
     record {
       there = omega (arith, r.front.count, r.answered, length-append r.taken d.down.bytes);
       answer = subst (λ (n : ℕ). IfSome e.busy.link.taken (λ taken. IsWholeAnswer m (take n (drop from taken)) ((e.busy.link.told_end ≡ true) × (from + e.answered ≡ e.busy.link.taken_count)))) (sym r.answered)

@@ -34,9 +34,11 @@ use Rattle.hx_session.proofs.EntryLemmas.{conn_own, below}
 
 gate_just : (old new : History) (n : SessionNo) (ready : Bool) (c : Option seen.Holding) → ReadsGate old new ready → HasJust old n c → HasJust new n c
 gate_just old new n ready None k just = held_apart old new n (plain (Gate old.about.thread (not ready)) ∷ []) k.makes (tt, tt) ∙ just
-gate_just old new n ready (Some c) k just =
-    (just.0, held_apart old new n (plain (Gate old.about.thread (not ready)) ∷ []) k.makes (tt, tt) ∙ just.1,
-    λ ne. just.2 (λ e. ne (ap (λ (a : About). a.rules.mode) k.makes.about ∙ e)))
+gate_just old new n ready (Some c) k just = (
+  just.0,
+  held_apart old new n (plain (Gate old.about.thread (not ready)) ∷ []) k.makes (tt, tt) ∙ just.1,
+  λ ne. just.2 (λ e. ne (ap (λ (a : About). a.rules.mode) k.makes.about ∙ e)),
+)
 
 heads : (a b : About) (xs ys : List About) → a ∷ xs ≡ b ∷ ys → a ≡ b
 heads a b xs ys e = cc

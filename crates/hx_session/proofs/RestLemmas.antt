@@ -49,16 +49,19 @@ rest_seat t n b len persistent seats some a own =
     let j = b.server.0 in
     let just = just_here t n (Some (Exchanging b)) j seats h a own.1 refl in
     let one = one_here t n (Some (Exchanging b)) j seats h a own.1 in
-    let back : b.uses ≡ b.uses + 1 - 1 = omega arith in
-    (h, own.1, record {
-      has = own.2;
-      can = λ ne. record {
-        session = some;
-        server = server_same b.server h.about.server (omega (arith, numbered_here 0 j seats h own.1 a.servers));
-        has = subst (λ (u : ℕ). Has h.mine n b.id.0 u) (just.2 ne ∙ back) (just_has h n (face_of b.id just.0) one just.1);
-        used = omega arith;
-      };
-    })
+    let back : b.uses ≡ b.uses + 1 - 1 = omega arith in (
+      h,
+      own.1,
+      record {
+        has = own.2;
+        can = λ ne. record {
+          session = some;
+          server = server_same b.server h.about.server (omega (arith, numbered_here 0 j seats h own.1 a.servers));
+          has = subst (λ (u : ℕ). Has h.mine n b.id.0 u) (just.2 ne ∙ back) (just_has h n (face_of b.id just.0) one just.1);
+          used = omega arith;
+        };
+      },
+    )
 
 pub rest_one : (t : ThreadNo) (n : SessionNo) (b : BusyNow) (seats : List History) → HasAround t n (Some (Exchanging b)) seats
     → AtSeat seats b.server.0 (λ h. HasConn h n b.id) → AtSeat seats b.server.0 (λ h. StandsInOneHistory h)

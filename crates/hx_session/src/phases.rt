@@ -20,8 +20,8 @@ use crate::asks::{choose_server, go_out, read_head};
 use crate::deadline::{Late, find_late};
 use crate::desk::Desk;
 use crate::ending::{
-    Own, answer, cut, end_by_server, leave, leave_after, leave_answering, leave_or_cut, lose_server,
-    tell_own,
+    Own, answer, cut, end_by_server, leave, leave_after, leave_answering, leave_or_cut,
+    lose_server, tell_own,
 };
 use crate::exchange::Exchange;
 use crate::moves::{Move, give, read_client, read_server, send};

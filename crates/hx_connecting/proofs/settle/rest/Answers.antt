@@ -24,7 +24,7 @@ returns-in-Ok-clause-around g c =
     let news : List History = map f c.settle.new.seats in
     let q = c.settle.result in
     let k : RestsAs olds news c.args.n c.args.busy net net2 q =
-        inl (mid, ok.0, ok.1, subst (λ (r : RestedNow). Settles olds news c.args.n r mid net2 q) ok.2 c.settle.ensures.settles) in
+    inl (mid, ok.0, ok.1, subst (λ (r : RestedNow). Settles olds news c.args.n r mid net2 q) ok.2 c.settle.ensures.settles) in
     λ t a. rests_around t olds news c.args.n c.args.busy net net2 q k a
 
 pub returns-in-Ok-clause-own : goal.returns-in-Ok-clause-own
@@ -38,7 +38,7 @@ returns-in-Ok-clause-own g c =
     let news : List History = map f c.settle.new.seats in
     let q = c.settle.result in
     let k : RestsAs olds news c.args.n c.args.busy net net2 q =
-        inl (mid, ok.0, ok.1, subst (λ (r : RestedNow). Settles olds news c.args.n r mid net2 q) ok.2 c.settle.ensures.settles) in
+    inl (mid, ok.0, ok.1, subst (λ (r : RestedNow). Settles olds news c.args.n r mid net2 q) ok.2 c.settle.ensures.settles) in
     rests_held olds news c.args.n c.args.busy net net2 q c.requires.has k
 
 pub returns-in-Ok-clause-abouts : goal.returns-in-Ok-clause-abouts
@@ -52,5 +52,5 @@ returns-in-Ok-clause-abouts g c =
     let news : List History = map f c.settle.new.seats in
     let q = c.settle.result in
     let k : RestsAs olds news c.args.n c.args.busy net net2 q =
-        inl (mid, ok.0, ok.1, subst (λ (r : RestedNow). Settles olds news c.args.n r mid net2 q) ok.2 c.settle.ensures.settles) in
+    inl (mid, ok.0, ok.1, subst (λ (r : RestedNow). Settles olds news c.args.n r mid net2 q) ok.2 c.settle.ensures.settles) in
     rests_abouts olds news c.args.n c.args.busy net net2 q c.requires.one k

@@ -37,11 +37,11 @@ returns g c =
     let net = g.N.Net.state c.args.net.now in
     let net2 = g.N.Net.state c.settle_at.new.net in
     let settles : Settles (map f seats) (map f (slice_set seats i c.settle_at.new.seat)) c.args.n c.args.rested net net2 c.settle_at.result = record {
-        old = old;
-        new = new;
-        was = there;
-        seats = map-set f seats i c.settle_at.new.seat ∙ ap (λ (k : ℕ). slice_set (map f seats) k new) same;
-        settles = c.settle_at.ensures.settles;
+      old = old;
+      new = new;
+      was = there;
+      seats = map-set f seats i c.settle_at.new.seat ∙ ap (λ (k : ℕ). slice_set (map f seats) k new) same;
+      settles = c.settle_at.ensures.settles;
     } in
     record {
       settles = settles;

@@ -27,16 +27,25 @@ returns g c = record {
           let mid : History = f c.park.new.self in
           let new : History = f c.match-park.seat in
           let closed : IsClosed mid (f w.close.new.seat) c.args.n v.id (net c.args.net.now) (net w.close.new.net) v.link =
-              subst (λ (l : LinkState). IsClosed mid (f w.close.new.seat) c.args.n v.id (net c.args.net.now) (net w.close.new.net) l) w.end-link.ensures.link
-              (subst (λ (id : ConnId). IsClosed mid (f w.close.new.seat) c.args.n id (net c.args.net.now) (net w.close.new.net) (g.L.Link.state w.end-link.result)) (ap (λ (x : Face). x.id) w.face.ensures) w.close.ensures) in
-          inr (mid, w.in-Err.field-0.why, v, w.in-Err.ensures.answer, w.end-link.ensures.meaning, w.in-Err.ensures.back,
-              subst (λ (h : History). IsClosed mid h c.args.n v.id (net c.args.net.now) (net c.match-park.net) v.link) (sym (ap f w.seat-is))
-              (subst (λ (s : NetState). IsClosed mid (f w.close.new.seat) c.args.n v.id (net c.args.net.now) s v.link) (sym (ap net w.net-is)) closed))
+          subst (λ (l : LinkState). IsClosed mid (f w.close.new.seat) c.args.n v.id (net c.args.net.now) (net w.close.new.net) l) w.end-link.ensures.link
+          (subst (λ (id : ConnId). IsClosed mid (f w.close.new.seat) c.args.n id (net c.args.net.now) (net w.close.new.net) (g.L.Link.state w.end-link.result)) (ap (λ (x : Face). x.id) w.face.ensures) w.close.ensures) in
+          inr (
+            mid,
+            w.in-Err.field-0.why,
+            v,
+            w.in-Err.ensures.answer,
+            w.end-link.ensures.meaning,
+            w.in-Err.ensures.back,
+            subst (λ (h : History). IsClosed mid h c.args.n v.id (net c.args.net.now) (net c.match-park.net) v.link) (sym (ap f w.seat-is))
+                (subst (λ (s : NetState). IsClosed mid (f w.close.new.seat) c.args.n v.id (net c.args.net.now) s v.link) (sym (ap net w.net-is)) closed),
+          )
       | in_default w ↦
           let f = g.S.HasHistory.history in
-          inl (w.in_default.field-0,
-              subst (λ (h : History). Parks (f c.args.seat.now) h c.args.n w.in_default.field-0 (shown c.args.rested)) (sym (ap f w.seat-is)) w.in_default.ensures.answer,
-              ap g.N.Net.state w.net-is)
+          inl (
+            w.in_default.field-0,
+            subst (λ (h : History). Parks (f c.args.seat.now) h c.args.n w.in_default.field-0 (shown c.args.rested)) (sym (ap f w.seat-is)) w.in_default.ensures.answer,
+            ap g.N.Net.state w.net-is,
+          )
     ],
   );
 }

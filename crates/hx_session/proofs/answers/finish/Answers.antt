@@ -10,13 +10,15 @@ use Rattle.hx_session.proofs.answers.finish.Goals as goal
 
 pub pass-held-requires-clause-over : goal.pass-held-requires-clause-over
 pass-held-requires-clause-over g c =
-    let w = c.requires.whole in
-    (w.body, record {
-      body = w.is;
-      ends = w.ends;
-      given = w.given;
-      timely = sym (c.if-is_early.ensures ∙ ap (λ (x : AnswerWay). early_of x) w.is);
-    })
+    let w = c.requires.whole in (
+      w.body,
+      record {
+        body = w.is;
+        ends = w.ends;
+        given = w.given;
+        timely = sym (c.if-is_early.ensures ∙ ap (λ (x : AnswerWay). early_of x) w.is);
+      },
+    )
 
 pub returns : goal.returns
 returns g c =

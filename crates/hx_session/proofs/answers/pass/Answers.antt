@@ -29,7 +29,7 @@ rest-held-requires g c =
     let ends = c.end_answer-busy.ensures in
     let set = c.requires.placed.set in
     let r = rest_ready d d1 c.args.exchange.busy c.end_answer-busy.result c.args.exchange.answered ends.0 (map g.S.HasHistory.history c.args.seats.now)
-        (ap (λ (x : DeskNow). x.session) c.tell_passed-served.ensures.next.desk) ends.1 set.numbered.counted.session set.around set.own in
+    (ap (λ (x : DeskNow). x.session) c.tell_passed-served.ensures.next.desk) ends.1 set.numbered.counted.session set.around set.own in
     record { has = r.has; may = r.may; one = r.one }
 
 pub returns-clause-placed : goal.returns-clause-placed
@@ -51,10 +51,10 @@ returns-clause-placed g c =
     let session : d1.session ≡ d.session = ap (λ (x : DeskNow). x.session) next.desk in
     let same_down : d1.down ≡ d.down = ap (λ (x : DeskNow). x.down) next.desk in
     let is : down ≡ pipe (drop (length d.down.bytes) d.down.bytes) d.down.capacity =
-        c.drop_front.ensures.bytes ∙ (ap (λ (k : ℕ). pipe (drop k d1.down.bytes) d1.down.capacity) c.len-unread.ensures.len ∙ ap (λ (p : PipeNow). pipe (drop (length p.bytes) p.bytes) p.capacity) same_down) in
+    c.drop_front.ensures.bytes ∙ (ap (λ (k : ℕ). pipe (drop k d1.down.bytes) d1.down.capacity) c.len-unread.ensures.len ∙ ap (λ (p : PipeNow). pipe (drop (length p.bytes) p.bytes) p.capacity) same_down) in
     let around : HasAround d.worker d1.session (resting q) news =
-        c.rest-held.ensures.around d.worker (around_busy d.worker d1.session b b2 olds (ap (λ (x : BusyNow). x.server) ends.1) (ap (λ (x : BusyNow). x.id) ends.1) (ap (λ (x : BusyNow). x.uses) ends.1)
-        (ap (λ (x : BusyNow). x.link.on_loop) ends.1) (subst (λ (n : SessionNo). HasAround d.worker n (Some (Exchanging b)) olds) (sym session) set.around)) in
+    c.rest-held.ensures.around d.worker (around_busy d.worker d1.session b b2 olds (ap (λ (x : BusyNow). x.server) ends.1) (ap (λ (x : BusyNow). x.id) ends.1) (ap (λ (x : BusyNow). x.uses) ends.1)
+    (ap (λ (x : BusyNow). x.link.on_loop) ends.1) (subst (λ (n : SessionNo). HasAround d.worker n (Some (Exchanging b)) olds) (sym session) set.around)) in
     passed_placed d d3 e c.requires.over.0 next.ask_to down q olds news c.requires.placed c.requires.over.1 next.ends is (ap (λ (x : DeskNow). record x { down = down }) next.desk)
     (subst (λ (n : SessionNo). HasAround d.worker n (resting q) news) session around) (subst (λ (n : SessionNo). HasHeld news n q) session c.rest-held.ensures.own)
 

@@ -29,7 +29,7 @@ advance-stage-requires g c =
     let serves = subst (λ (x : SessionNow). SeatsServe x.worker seats (all_servers config.backs)) same c.requires.seats in
     let holds = subst (λ (x : SessionNow). HoldsAt x 0 seats) same c.requires.holds in
     let e : Enters b (length (all_servers config.backs)) d s seats =
-        enters config.threads (meaning config) c.self.inside.front d s seats scene.front.now b config.within c.scene_of-scene.ensures.front c.scene_of-scene.ensures.back c.self.invariant going serves holds in
+    enters config.threads (meaning config) c.self.inside.front d s seats scene.front.now b config.within c.scene_of-scene.ensures.front c.scene_of-scene.ensures.back c.self.invariant going serves holds in
     let count = length-map c.args.seats.now f in
     record {
       few = e.few;
@@ -56,8 +56,8 @@ returns-clause-going g c =
     let keeps = c.advance-stage.ensures.keeps in
     let serves = subst (λ (x : SessionNow). SeatsServe x.worker olds (all_servers config.backs)) (sym c.self.view_is) c.requires.seats in
     done_going (meaning config) c.self.inside.front d2 (stage_now done.stage) news done.waits done.left c.scene_of-scene.result.front.now c.scene_of-scene.result.back.now
-        c.scene_of-scene.ensures.front c.scene_of-scene.ensures.back c.advance-stage.ensures.done c.advance-stage.ensures.routed
-        (serves_on d.worker d2.worker olds news (all_servers config.backs) keeps.who.worker keeps.about serves)
+    c.scene_of-scene.ensures.front c.scene_of-scene.ensures.back c.advance-stage.ensures.done c.advance-stage.ensures.routed
+    (serves_on d.worker d2.worker olds news (all_servers config.backs) keeps.who.worker keeps.about serves)
 
 pub returns-clause-seats : goal.returns-clause-seats
 returns-clause-seats g c =
