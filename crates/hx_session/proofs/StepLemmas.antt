@@ -1,5 +1,5 @@
 -- What the parts of a step ask, from what a session and its worker keep between calls.
-use Rattle.std.proofs.Common.{◌≡◌, ◌≢◌, ◌≤◌, ◌<◌, ℕ, Bool, true, false, List, get_or, length, refl, sym, ap, subst, ◌∙◌, arith, Some, None}
+use Rattle.std.proofs.Common.{◌≡◌, ◌≢◌, ◌≤◌, ◌<◌, ℕ, zero, suc, Bool, true, false, List, [], ◌∷◌, get_or, length, refl, sym, ap, subst, ◌∙◌, arith, Some, None}
 use Rattle.std.specs.List.{slice_get}
 use Rattle.std.proofs.lemmas.List.{length-map}
 use Rattle.hx_base.specs.declared.numbers.ThreadNo.{ThreadNo}
@@ -17,7 +17,7 @@ use Rattle.hx_session.specs.Stages.{StageNow, Reading, Choosing, Exchanging, Ans
 use Rattle.hx_session.specs.Seen.{conn_seen, chosen_seen, over_seen, session_seen}
 use Rattle.hx_session.specs.Standing.{IsSound, IsPlaced, IsRoutedTo}
 use Rattle.hx_session.specs.Fits.{SeatsServe, GoesTo, IsGoing, TurnsFit}
-use Rattle.hx_session.proofs.EntryLemmas.{entry_all, entry_routed, few_servers, have_seats, read_at, serves_again, serves_length, some_server, turn_low}
+use Rattle.hx_session.proofs.EntryLemmas.{below, entry_all, entry_routed, few_servers, have_seats, read_at, serves_again, serves_length, some_server, turn_low}
 
 pub not_over : (b : Bool) → (b ≡ true → ⊥) → b ≡ false
 not_over true k = absurd (k refl)
@@ -82,3 +82,14 @@ goes_on_here b k = not_over b (λ e. untrue (k e))
   where
     untrue : false ≡ true → ⊥
     untrue e = cc
+
+turn_there : (xs : List ℕ) (i : ℕ) → i < length xs → slice_get xs i ≡ Some (get_or xs i 0)
+turn_there [] i low = absurd (omega (arith, low))
+turn_there (x ∷ xs) zero low = refl
+turn_there (x ∷ xs) (suc i) low = turn_there xs i (omega (arith, low))
+
+-- the turn that is read there too
+pub turn_here : (config : Meaning) (turns : List ℕ) (i : ℕ) (b : Back) → TurnsFit config turns → slice_get config.backs i ≡ Some b → 1 ≤ length b.servers → get_or turns i 0 < length b.servers
+turn_here config turns i b fit back some =
+    let low : i < length turns = omega (arith, below config.backs i b back, fit.count) in
+    turn_low (length b.servers) (get_or turns i 0) (fit.each i (get_or turns i 0) b (turn_there turns i low) back) some

@@ -1,6 +1,7 @@
 use Rattle.std.proofs.Common.{◌≡◌, ◌∙◌, ℕ, List, length, map, refl, sym, ap, subst}
 use Rattle.std.proofs.lemmas.List.{length-map}
 use Rattle.hx_base.specs.declared.numbers.ThreadNo.{ThreadNo}
+use Rattle.hx_config.specs.declared.config.Config.{Config}
 use Rattle.hx_config.specs.declared.parts.Back.{Back}
 use Rattle.hx_config.specs.Limits.{all_servers}
 use Rattle.hx_config.specs.Views.{meaning}
@@ -8,11 +9,13 @@ use Rattle.hx_pool.specs.SeatView.{History}
 use Rattle.hx_connecting.specs.Choice.{HaveSeats}
 use Rattle.hx_connecting.specs.Holds.{HoldsAt}
 use Rattle.hx_connecting.specs.Sessions.{SessionNow}
+use Rattle.hx_session.specs.declared.stage.Stage.{Stage}
 use Rattle.hx_session.specs.Desks.{desk_now, DeskNow}
 use Rattle.hx_session.specs.Fits.{IsGoing, SeatsServe}
 use Rattle.hx_session.specs.Stages.{StageNow, stage_now}
-use Rattle.hx_session.proofs.ExitLemmas.{done_going}
-use Rattle.hx_session.proofs.StepLemmas.{Enters, enters, goes_on_here, serves_on}
+use Rattle.hx_session.specs.Standing.{IsPlaced, IsRoutedTo}
+use Rattle.hx_session.proofs.ExitLemmas.{done_going, turns_set}
+use Rattle.hx_session.proofs.StepLemmas.{Enters, enters, goes_on_here, serves_on, turn_here}
 use Rattle.hx_session.proofs.session.Session.step.Goals as goal
 
 pub advance-stage-requires : goal.advance-stage-requires
@@ -33,16 +36,18 @@ advance-stage-requires g c =
     let count = length-map c.args.seats.now f in
     record {
       few = e.few;
-      turn = ?;
+      turn = turn_here (meaning config) c.args.turns.now scene.front.now.back b c.requires.turns c.scene_of-scene.ensures.back e.some;
       seats = subst (λ (n : ℕ). HaveSeats b.servers n) count e.have;
-      servers = sym count ∙ e.all;
-      placed = e.placed;
-      routed = e.routed;
+      servers = sym count ∙ (e.all ∙ ap (λ (x : Config). length (all_servers x.backs)) (sym c.scene_of-scene.ensures.config));
+      placed = subst (λ (x : Stage g.row.L.Denot). IsPlaced d (stage_now x) seats) (sym c.replace-stage.ensures.value) e.placed;
+      routed = subst (λ (x : Stage g.row.L.Denot). IsRoutedTo b (stage_now x)) (sym c.replace-stage.ensures.value) e.routed;
       loop_ = c.requires.net ∙ ap (λ (x : SessionNow). x.worker.0) same;
     }
 
 pub returns-clause-turns : goal.returns-clause-turns
-returns-clause-turns g c = ?
+returns-clause-turns g c =
+    let scene = c.scene_of-scene.result in
+    turns_set (meaning c.args.config.now) c.args.turns.now scene.front.now.back c.advance-stage.new.turn scene.back.now c.requires.turns c.scene_of-scene.ensures.back c.advance-stage.ensures.turn
 
 pub returns-clause-going : goal.returns-clause-going
 returns-clause-going g c =
