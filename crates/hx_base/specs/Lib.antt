@@ -1,4 +1,5 @@
 pub mod Counts
 pub mod Names
+pub mod PlaceWords
 pub mod Shown
 pub mod Spans

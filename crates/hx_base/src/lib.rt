@@ -6,6 +6,7 @@ mod faced;
 mod items;
 mod numbers;
 mod order;
+mod place_word;
 mod plan;
 mod rules;
 mod totals;
@@ -18,6 +19,7 @@ pub use numbers::{
     ConnId, Face, Millis, NoMemory, OutOfIds, PlaceNo, ServerNo, SessionNo, Span, ThreadNo,
 };
 pub use order::Order;
+pub use place_word::{PlaceState, pack_place, unpack_place};
 pub use plan::{Piece, Plan};
 pub use rules::{Mode, PoolRules};
 pub use totals::Totals;

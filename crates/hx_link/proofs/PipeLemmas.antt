@@ -1,10 +1,10 @@
 -- The bytes of a pipe in its memory.
-use Rattle.std.proofs.Common.{◌≡◌, ℕ, ◌+◌, ◌-◌, ◌≤◌, zero, suc, List, [], ◌∷◌, ◌++◌, length, take, drop, ◌∙◌, ap, sym, refl, arith, append_assoc, length-append, length-take, length-drop}
+use Rattle.std.proofs.Common.{◌≡◌, ℕ, ◌+◌, ◌-◌, ◌≤◌, zero, suc, List, [], ◌∷◌, ◌++◌, length, take, drop, ◌∙◌, ap, sym, refl, arith, append_assoc, length-append}
 use Rattle.std.proofs.lemmas.List.{take-append-le, take_all, drop-take, drop-drop, drop-append-le}
 use Rattle.std.proofs.lemmas.Grind.{common_steps}
 use Rattle.std.proofs.Math.Seq.{take-append-add}
 use Rattle.std.specs.List.{refill, length_refill}
-use Rattle.hx_link.specs.Pipes.{PipeNow, pipe, held_in}
+use Rattle.hx_link.specs.Pipes.{pipe, held_in}
 
 pub pipe_is : (xs ys zs : List ℕ) (n capacity : ℕ) → xs ≡ ys → ys ≡ zs → n ≡ capacity → pipe xs n ≡ pipe zs capacity
 pipe_is xs ys zs n capacity e f g = let whole : xs ≡ zs = e ∙ f in λ i. pipe (whole i) (g i)

@@ -2,7 +2,7 @@
 ghost use Rattle.std.specs.Prelude.{◌≡◌, None};
 
 use crate::link::Link;
-use hx_base::{Address, ConnId, Millis, ServerNo, ThreadNo};
+use hx_base::{Address, ConnId, Millis, ServerNo, SessionNo, ThreadNo};
 
 /// A net failed. Its count of faults rose.
 #[derive(Clone, Copy, Debug, PartialEq, Eq)]
@@ -51,6 +51,19 @@ pub trait Net {
     /// Ends a link.
     fn bury(&mut self, link: Self::L)
         ensures buries { NetBuries (state self.old) (state self.new) (Self.L.state link) };
+
+    /// Says for which session links are attached from now on, so that `next_news` can name it. A net that gives no news
+    /// does nothing.
+    fn attach_for(&mut self, _session: SessionNo)
+        ensures attaches_for { state self.new ≡ state self.old }
+    {}
+
+    /// The next session of whose links the last pause reported something. A net that gives no news answers None.
+    fn next_news(&mut self) -> Option<SessionNo>
+        ensures tells { state self.new ≡ state self.old }
+    {
+        None
+    }
 
     /// Waits up to the limit for a link that is attached, or doesn't wait.
     fn pause(&mut self, limit: Millis)

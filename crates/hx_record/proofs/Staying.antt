@@ -14,7 +14,6 @@ use Rattle.hx_record.specs.GoingOn.{GoesOn, ReadsNoMore, MayGoOn}
 use Rattle.hx_record.specs.Truth.{HasRanges, IsTruePassed, IsTrueCut, LeftBeforeAll, IsTrueOwn, RecountsBytes}
 use Rattle.hx_record.specs.declared.served.Carried.{Carried}
 use Rattle.hx_record.specs.declared.served.CutCause.{CutCause}
-use Rattle.hx_record.specs.declared.served.CutCause.TheVariants as cut
 use Rattle.hx_record.specs.declared.served.Kind.{Kind}
 use Rattle.hx_record.specs.declared.served.Kind.TheVariants as kind
 use Rattle.hx_record.specs.declared.served.LeftCause.{LeftCause}

@@ -12,10 +12,11 @@ use Rattle.hx_message.specs.declared.MethodKind.{MethodKind}
 use Rattle.hx_message.specs.declared.MethodKind.TheVariants.{Other}
 use Rattle.hx_record.specs.declared.served.Carried.{Carried}
 use Rattle.hx_record.specs.declared.served.Left.{Left}
+use Rattle.hx_record.specs.declared.served.LeftCause.TheVariants as cause
 use Rattle.hx_record.specs.declared.served.Told.{Told}
 use Rattle.hx_record.specs.declared.served.Told.TheVariants as told
-use Rattle.hx_record.specs.Tiles.{ask_of, InOrder, TilesClient, TilesConn}
-use Rattle.hx_record.specs.Samples.{client, ask, answer, other_answer, closing_answer, range, moved, one_asked, one_carried, two_asked, two_carried, first, first_moved, second, second_as, gave_too_short, ask_too_short, closed_untold, gap_in_asks, gap_in_sent, told_after_end, begins_at_two, leaves_out_two, Recounts}
+use Rattle.hx_record.specs.Tiles.{ask_of, left_of, InOrder, TilesClient, TilesConn}
+use Rattle.hx_record.specs.Samples.{client, ask, answer, other_answer, closing_answer, range, moved, one_asked, one_carried, two_asked, two_carried, first, first_moved, second, second_as, gave_too_short, ask_too_short, closed_untold, gap_in_asks, gap_in_sent, told_after_end, left_twice, begins_at_two, leaves_out_two, Recounts}
 use Rattle.hx_record.proofs.TrueSamples.{ask_head, asked, answer_goes_out, not_closing}
 
 -- ---- records
@@ -119,6 +120,25 @@ late_served (x ∷ y ∷ z ∷ front) back l is none = omega (arith, ap length i
 
 pub late_record : ¬ TilesClient told_after_end two_asked
 late_record t = late_served t.left.0 t.left.2 t.left.1 t.left.3 t.left.6
+
+-- of two Lefts one stands before or behind the other
+two_ends : (front back : List Told) (l : Left) → left_twice ≡ front ++ told.Left l ∷ back
+    → flat_map (left_of one_asked.worker one_asked.session) front ≡ []
+    → flat_map (ask_of one_asked.worker one_asked.session) back ≡ [] → ⊥
+two_ends [] back l is before behind = cc
+two_ends (x ∷ []) back l is before behind =
+    let same : back ≡ told.Left (record { worker = record { 0 = 0 }; session = record { 0 = 1 }; ask = range 28 28; cause = cause.End }) ∷ [] = cc in
+    let some = ap (flat_map (ask_of one_asked.worker one_asked.session)) same in
+    omega (arith, ap length (sym some ∙ behind))
+two_ends (x ∷ y ∷ []) back l is before behind =
+    let one : x ≡ told.Served first = cc in
+    let two : y ≡ told.Left (record { worker = record { 0 = 0 }; session = record { 0 = 1 }; ask = range 28 28; cause = cause.End }) = cc in
+    let some = ap (λ (xs : List Told). flat_map (left_of one_asked.worker one_asked.session) xs) (ap (λ (a : Told). a ∷ y ∷ []) one ∙ ap (λ (b : Told). told.Served first ∷ b ∷ []) two) in
+    omega (arith, ap length (sym some ∙ before))
+two_ends (x ∷ y ∷ z ∷ front) back l is before behind = omega (arith, ap length is, length-append front (told.Left l ∷ back))
+
+pub ends_twice : ¬ TilesClient left_twice one_asked
+ends_twice t = two_ends t.left.0 t.left.2 t.left.1 t.left.3 t.left.5 t.left.6
 
 -- ---- numbers
 

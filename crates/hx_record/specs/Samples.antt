@@ -130,6 +130,10 @@ gap_in_sent =
 abbrev pub told_after_end : List Told
 told_after_end = told.Served first ∷ left (range 28 28) ∷ told.Served second ∷ []
 
+-- the session's end is told twice
+abbrev pub left_twice : List Told
+left_twice = told.Served first ∷ left (range 28 28) ∷ left (range 28 28) ∷ []
+
 -- the session's first record says that it is the second, or its second that it is the third
 abbrev pub begins_at_two : List Told
 begins_at_two = told.Served (record first { number = 2 }) ∷ left (range 28 28) ∷ []

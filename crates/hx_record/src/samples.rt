@@ -4,7 +4,7 @@ ghost use Rattle.hx_record.specs.declared.served.LeftCause.TheVariants as cause;
 ghost use Rattle.std.specs.Prelude.{◌++◌};
 ghost use Rattle.hx_record.specs.Covers.{CoversClient, CoversConn, FollowsClient, FollowsConn};
 ghost use Rattle.hx_record.specs.CutSamples.{cut_at, own_answer, own_begun, own_of, part_asked, part_carried, RecountsLeft, RecountsOwn};
-ghost use Rattle.hx_record.specs.Samples.{begins_at_two, client, closed_untold, closing_answer, ask, answer, first, first_line, gap_in_asks, gap_in_sent, gave_too_short, ask_too_short, leaves_out_two, one_asked, one_carried, one_record, other_answer, second, second_as, second_moved, told_after_end, two_asked, two_carried, two_records, Recounts};
+ghost use Rattle.hx_record.specs.Samples.{begins_at_two, client, closed_untold, closing_answer, ask, answer, first, first_line, gap_in_asks, gap_in_sent, gave_too_short, ask_too_short, leaves_out_two, left_twice, one_asked, one_carried, one_record, other_answer, second, second_as, second_moved, told_after_end, two_asked, two_carried, two_records, Recounts};
 ghost use Rattle.hx_record.specs.Tiles.{TilesClient, TilesConn};
 
 /// One exchange: its record is true, and the ranges leave no gap.
@@ -44,11 +44,13 @@ fn records_follow()
     ensures read_on { ¬ RecountsOwn cause.Own (own_of 503 74) (client (ask ++ ask) own_answer) }
 {}
 
-/// A gap between two ranges, a record after the session's end, or a number that isn't the next: the ranges don't tile.
+/// A gap between two ranges, a record after the session's end, a second end, or a number that isn't the next: the
+/// ranges don't tile.
 fn wrong_ranges()
     ensures gap_in_asks { ¬ TilesClient gap_in_asks two_asked }
     ensures gap_in_sent { ¬ TilesConn gap_in_sent two_carried }
     ensures told_after_end { ¬ TilesClient told_after_end two_asked }
+    ensures left_twice { ¬ TilesClient left_twice one_asked }
     ensures begins_at_two { ¬ TilesClient begins_at_two one_asked }
     ensures leaves_out_two { ¬ TilesClient leaves_out_two two_asked }
 {}

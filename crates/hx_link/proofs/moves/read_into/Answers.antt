@@ -1,5 +1,4 @@
-use Rattle.std.proofs.Common.{◌≡◌, ℕ, ◌≤◌, List, ◌++◌, length, take, ◌∙◌, ap, sym, refl, arith, subst}
-use Rattle.hx_link.specs.Moves.{got_count, ReadsInto}
+use Rattle.std.proofs.Common.{ℕ, ◌≤◌, List, ◌++◌, take, ◌∙◌, ap, arith}
 use Rattle.hx_link.specs.Pipes.{pipe}
 use Rattle.hx_link.proofs.PipeLemmas.{kept_is}
 use Rattle.hx_link.proofs.MoveLemmas.{got_within}

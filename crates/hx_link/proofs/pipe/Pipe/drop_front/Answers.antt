@@ -1,4 +1,4 @@
-use Rattle.std.proofs.Common.{◌≡◌, ℕ, ◌≤◌, List, length, drop, ap, arith}
+use Rattle.std.proofs.Common.{◌≤◌, length, drop, ap, arith}
 use Rattle.hx_link.specs.Pipes.{PipeNow}
 use Rattle.hx_link.proofs.PipeLemmas.{pipe_is, rest_is, length-held}
 use Rattle.hx_link.proofs.pipe.Pipe.drop_front.Goals as goal
