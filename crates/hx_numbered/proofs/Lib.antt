@@ -1,0 +1,4 @@
+pub mod Rising
+pub mod Finding
+pub mod Writing
+pub mod Searching

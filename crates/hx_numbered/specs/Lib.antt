@@ -1,0 +1,4 @@
+pub mod Numbers
+pub mod Numbered
+pub mod Listed
+pub mod Lends
