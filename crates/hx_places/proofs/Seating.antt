@@ -13,7 +13,7 @@ use Rattle.hx_pool.specs.declared.entries.Entry.TheVariants.{Gate, Take, Look}
 use Rattle.hx_places.specs.Turns.{Turn, Due, Settled, WentUp, HasTaken, Call, AtEase, HasParked, FoundDrain, turn_of, CountsInTurn, FollowsPark, MayTurn}
 use Rattle.hx_places.specs.Right.{IsRight}
 use Rattle.hx_places.specs.Views.{noting, claiming, worker, told_by, Adds, Hears, Won, WasThere}
-use Rattle.hx_places.specs.Seats.{PlaceView, Stands, KeepsSeat}
+use Rattle.hx_places.specs.Seats.{PlaceView, Stands, Notes, KeepsSeat}
 use Rattle.hx_places.specs.Asks.{MayReadGate, MayTry}
 use Rattle.atomic_table.specs.Seated.{TableId}
 use Rattle.hx_base.specs.declared.numbers.SessionNo.{SessionNo}
@@ -179,6 +179,12 @@ notes_from {hand} board board' b t opened opened' v w e e' k same is mine more a
     let a : Adds hand v w e = subst (λ (z : Note). Adds hand v w z) is a' in
     let k' = after_note b t opened opened' hand v w e k a (mine ∙ k.thread) more in
     (a, stands_of b t opened v k, stands_of b t opened' w k', k')
+
+pub notes_of : (board board' : TableId) (b : BoardTerms) (t : ThreadNo) (opened opened' : ℕ) (v w : View) (e e' : Note) → KeepsSeat b t opened v → board' ≡ board → e' ≡ e → thread_of e.entry ≡ v.thread
+    → opened' ≡ opened + cond (is_open e) 1 0 → Adds v.hand v w e' → Notes (record { board = board; view = v }) (record { board = board'; view = w }) e
+notes_of board board' b t opened opened' v w e e' k same is mine more a =
+    let all = notes_from board board' b t opened opened' v w e e' k same is mine more a in
+    record { board = same; adds = all.0; was = all.1; one = all.2 }
 
 pub went_up : (old : ℕ) → WentUp old ≡ Settled → ⊥
 went_up old e = cc

@@ -43,11 +43,11 @@ impl<S, W: Says> Play<S, View> for Draw<W> {
 }
 
 /// A place's word is read.
-pub(crate) struct Look<W> {
+pub(crate) struct LookAt<W> {
     note: PhantomData<W>,
 }
 
-impl<S, W: Says> Play<S, View> for Look<W> {
+impl<S, W: Says> Play<S, View> for LookAt<W> {
     ghost use Rattle.hx_places.specs.Views.{looked};
 
     ghost then = { looked W.note };

@@ -13,7 +13,7 @@ ghost use Rattle.hx_pool.specs.Taking.{taken};
 ghost use Rattle.hx_places.specs.Turns.{Settled};
 ghost use Rattle.hx_places.specs.Words.{spot_of};
 
-use crate::rule::{Adds, Draw, Fill, Hear, Look, Publish, Says, Take, Tell, Vacate};
+use crate::rule::{Adds, Draw, Fill, Hear, LookAt, Publish, Says, Take, Tell, Vacate};
 use crate::seat::PlaceSeat;
 use crate::words::{COUNT, GATE, NEXT, ROUND, gate_word, shown_by, slot_at, word_at};
 use hx_base::{ConnId, Face, Faced, PlaceNo, PlaceState, SessionNo, pack_place};
@@ -45,7 +45,7 @@ impl<'a, V: Faced> PlaceSeat<'a, V> {
         ensures notes { Notes self.old self.new (plain (Look self.old.view.thread place result)) }
     {
         let at = word_at(place);
-        let word = self.shared.load::<Look<W>>(&mut self.token, at);
+        let word = self.shared.load::<LookAt<W>>(&mut self.token, at);
         shown_by(word)
     }
 

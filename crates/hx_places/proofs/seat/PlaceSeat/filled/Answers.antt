@@ -3,7 +3,7 @@ use Rattle.hx_pool.specs.Table.{spot_no}
 use Rattle.hx_places.specs.Views.{carried_of, claiming}
 use Rattle.hx_places.proofs.Slots.{claims}
 use Rattle.hx_places.proofs.Seating.{after_claim, seat_is}
-use Rattle.hx_places.proofs.steps.PlaceSeat.filled.Goals as goal
+use Rattle.hx_places.proofs.seat.PlaceSeat.filled.Goals as goal
 
 pub store-requires : goal.store-requires
 store-requires g c =
@@ -20,7 +20,7 @@ store-requires g c =
     let number = c.word_at-at.ensures in (
       i.0,
       omega arith,
-      claims g.V.Faced.shows c.self.inside.shared.now.key _ c.self.inside.token.id c.self.inside.token.me p _ _ k.role number c.pack_place-word.ensures (omega arith) (omega arith) asks.vacant asks.idle,
+      claims g.V.Faced.shows c.self.inside.shared.now.key _ c.self.inside.token.id c.self.inside.token.me p _ _ k.role number c.pack_place-word.ensures.word (omega arith) (omega arith) asks.vacant asks.idle,
     )
 
 pub invariant_of-self : goal.invariant_of-self
@@ -36,7 +36,7 @@ invariant_of-self g c =
       after_claim c.self.inside.terms c.self.inside.thread c.self.inside.opened c.self.inside.token.me.0 _ (spot_no c.args.place) i.5 did.0,
     )
 
-pub returns-clause-claims : goal.returns-clause-claims
-returns-clause-claims g c =
+pub returns : goal.returns
+returns g c =
     let did = c.store.ensures.2 (spot_no c.args.place) c.word_at-at.ensures in
-    rw (← c.self.view_is) (seat_is c.self.inside.token.table_id _ (claiming c.self.inside.token.me.0 (spot_no c.args.place)) _ c.store.ensures.0 did.0)
+    rw (← c.self.view_is) (record { claims = seat_is c.self.inside.token.table_id _ (claiming c.self.inside.token.me.0 (spot_no c.args.place)) _ c.store.ensures.0 did.0 })

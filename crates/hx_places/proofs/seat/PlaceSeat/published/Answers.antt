@@ -11,7 +11,7 @@ use Rattle.hx_places.specs.Views.{carried_of, published}
 use Rattle.hx_places.specs.Rule.{Kept}
 use Rattle.hx_places.proofs.Slots.{publishes}
 use Rattle.hx_places.proofs.Seating.{at_ease, after_note, has_number, publishes_from, stands_of}
-use Rattle.hx_places.proofs.steps.PlaceSeat.published.Goals as goal
+use Rattle.hx_places.proofs.seat.PlaceSeat.published.Goals as goal
 
 pub pack_place-word-requires : goal.pack_place-word-requires
 pack_place-word-requires g c =
@@ -25,7 +25,7 @@ pack_place-word-requires g c =
     let number = has_number c.self.inside.terms c.self.inside.thread c.self.inside.opened c.self.inside.token.me.0 c.args.n f.id.0 (f.uses - 1) k asks.parks.has in
     let a = number.0 in
     let b = number.1 in
-    let used = asks.parks.used in (omega arith, omega arith, omega arith, low)
+    let used = asks.parks.used in record { state = (omega arith, omega arith, omega arith, low) }
 
 pub store-requires : goal.store-requires
 store-requires g c =
@@ -57,7 +57,7 @@ store-requires g c =
           (λ _. published g.W.Says.note (step c.self.inside.shared.now.table_id.slots c.word_at-at.result c.pack_place-word.result 0 maybe.none) m c.pack_place-word.result)) (sym c.exchange.ensures.3)
           (publishes g.V.Faced.shows key _ c.exchange.new.seat.id (v, (c.slot_at-slot.result, Some c.args.v) ∷ rest me.1) g.W.Says.note c.args.n c.args.place c.args.v (rest me.1) _ _ k.role number (omega arith) asks.claim
           (ap (λ (z : ℕ). (z, Some c.args.v) ∷ rest me.1) slot) row in_row asks.parks.session asks.parks.has asks.parks.used (omega arith) (asks.parks.server ∙ ap (λ t. t.server) terms)
-          (c.pack_place-word.ensures ∙ ap (λ f. resting_word f.id.0 f.uses) c.face-face.ensures) said (λ e. asks.mode (ap (λ t. t.rules.mode) terms ∙ e))
+          (c.pack_place-word.ensures.word ∙ ap (λ f. resting_word f.id.0 f.uses) c.face-face.ensures) said (λ e. asks.mode (ap (λ t. t.rules.mode) terms ∙ e))
           (at_ease key.rules.max (turn_of v.mine) (Park v.thread c.args.n s.face.id c.args.place s.face.uses) ease (up.0, up.1, subst (λ o. IsBelow o up.0) (ap (λ t. t.rules.max) terms) up.2))),
     )
 

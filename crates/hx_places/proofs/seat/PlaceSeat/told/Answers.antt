@@ -3,7 +3,7 @@ use Rattle.hx_places.specs.declared.view.View.{View}
 use Rattle.hx_places.specs.Views.{carried_of, copy_of, told_by, Hears}
 use Rattle.hx_places.proofs.Telling.{copies, joins, hears}
 use Rattle.hx_places.proofs.Seating.{after_hearing, after_told, stands_of}
-use Rattle.hx_places.proofs.steps.PlaceSeat.told.Goals as goal
+use Rattle.hx_places.proofs.seat.PlaceSeat.told.Goals as goal
 
 pub split_seat-copy-requires : goal.split_seat-copy-requires
 split_seat-copy-requires g c =
