@@ -1,0 +1,10 @@
+pub mod Words
+pub mod Turns
+pub mod Sums
+pub mod Right
+pub mod Known
+pub mod Views
+pub mod Rule
+pub mod Seats
+pub mod Asks
+pub mod Boards
