@@ -1,0 +1,7 @@
+pub mod Doors
+pub mod Cabinets
+pub mod MemoryDoors
+pub mod MemoryDoorView
+pub mod MemoryCabinets
+pub mod MemoryFileView
+pub mod MemoryCabinetView
