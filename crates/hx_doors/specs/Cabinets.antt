@@ -29,15 +29,20 @@ pub record IsUnreadFile (s : SourceState) : Type 0 where
   pub faults : s.faults ≡ 0
   pub told_end : s.told_end ≡ false
 
+-- files with their names and their bytes
+abbrev pub Files : Type 0
+Files = List (List ℕ × List ℕ)
+
 -- where files are told, the file is the first of its name, with its bytes, and isn't held any more
-abbrev pub HandsOut : List ℕ → SourceState → Option (List (List ℕ × List ℕ)) → Option (List (List ℕ × List ℕ)) → Type 0
+abbrev pub HandsOut : List ℕ → SourceState → Option Files → Option Files → Type 0
 HandsOut name source None new = new ≡ None
 HandsOut name source (Some files) new =
-    (bytes : List ℕ) × (left : List (List ℕ × List ℕ)) × (new ≡ Some left) × TakesFirst name bytes files left
+    (bytes : List ℕ) × (left : Files) × (new ≡ Some left) × TakesFirst name bytes files left
     × IfSome source.left (λ xs. xs ≡ bytes)
 
 -- a file is handed out unread, or a fault is counted
-abbrev pub CabinetFetches : {S : Type 0} → (S → SourceState) → CabinetState → CabinetState → List ℕ → Result S NoFile → Type 0
+abbrev pub CabinetFetches : {S : Type 0} → (S → SourceState) → CabinetState → CabinetState → List ℕ → Result S NoFile
+    → Type 0
 CabinetFetches state old new name (Ok source) =
     (new ≡ record old { files = new.files }) × HandsOut name (state source) old.files new.files
     × IsUnreadFile (state source)

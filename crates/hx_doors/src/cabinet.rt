@@ -12,8 +12,8 @@ pub trait Cabinet {
 
     type S: Source + Drop;
 
-    // Its count of faults, the files that it holds where it tells them, and whether the last one that came back was read
-    // to its end.
+    // Its count of faults, the files that it holds where it tells them, and whether the last one that came back had told
+    // its end.
     ghost state: { Self → CabinetState };
 
     /// Hands out the first file of that name.

@@ -38,7 +38,8 @@ module _ {T : Type 0} where
   abbrev pub with_settled : View T → ℕ → List T → View T
   with_settled v giver handed = record v { settled = v.settled ++ ended giver handed ∷ [] }
 
--- what came to pass: which pass each giver has, until it ends, and what it handed in; what was collected, in order; and the taker's pass
+-- what came to pass: which pass each giver has, until it ends, and what it handed in; what was collected, in order;
+-- and the taker's pass
 pub record Past (T : Type 0) : Type 0 where
   pub seat : ℕ → Option ℕ
   pub sent : ℕ → List T

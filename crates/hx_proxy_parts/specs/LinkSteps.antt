@@ -15,4 +15,5 @@ WaitsToRead old new now =
 -- a write that had to wait is counted, with its moment
 abbrev pub WaitsToWrite : LinkState → LinkState → ℕ → Type 0
 WaitsToWrite old new now =
-    (new ≡ record old { write_waits = new.write_waits; write_wait_at = now }) × CountsOne old.write_waits new.write_waits
+    (new ≡ record old { write_waits = new.write_waits; write_wait_at = now })
+    × CountsOne old.write_waits new.write_waits

@@ -151,8 +151,8 @@ impl<R: std::net::Net + Drop> Door for SockDoor<R> {
         }
     }
 
-    /// It waits only where no client is known to be there. Where the machine has no descriptor left it fails at once, so
-    /// the caller has to pause then.
+    /// It waits only where no client is known to be there. Where the machine has no descriptor left it fails at once,
+    /// so the caller has to pause then.
     fn accept(&mut self, limit: Millis) -> Accepted<SockLink> {
         let mut found = look(&mut self.listening);
         if let Found::Nothing = &found {
