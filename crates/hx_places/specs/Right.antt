@@ -20,8 +20,8 @@ abbrev pub ArePlain : List Note → Type 0
 ArePlain [] = Unit {0}
 ArePlain (x ∷ xs) = IsPlainNote x × ArePlain xs
 
--- each entry is a step of the table, and the reuse mode and the limit are kept; each thread made its own entries in turn,
--- and no more opens than it may; the count is what rests and what is owed
+-- each entry is a step of the table, and the reuse mode and the limit are kept; each thread made its own entries in
+-- turn, and no more opens than it may; the count is what rests and what is owed
 pub record IsRight (b : BoardTerms) (H : List Note) : Type 0 where
   pub legal : IsLegal H
   pub mode : KeepsMode b.rules H
