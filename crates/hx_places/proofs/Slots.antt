@@ -1,7 +1,7 @@
 -- The steps that move a slot: claim, publish, take and vacate.
 use Rattle.std.proofs.Common.{◌≡◌, ◌≢◌, ℕ, ◌+◌, ◌-◌, ◌*◌, ◌/◌, ◌%◌, ◌<◌, ◌≤◌, List, [], ◌∷◌, ◌++◌, Bool, get_or, set}
-use Rattle.std.proofs.Common.{cond, eqb, ltb, lt-ltb, le-ltb, true, ◌⊎◌, inl, inr, ⊎_elim, sym, refl, ap, ◌∙◌, subst}
-use Rattle.std.proofs.Common.{arith, Option, Some, None, length-set, get_or-set_other, get_or-set_same, eq-eqb, ne_eqb}
+use Rattle.std.proofs.Common.{eqb, true, ◌⊎◌, inl, inr, ⊎_elim, sym, refl, ap, ◌∙◌, subst}
+use Rattle.std.proofs.Common.{arith, Option, Some, None, length-set, get_or-set_other, get_or-set_same}
 use Rattle.std.proofs.lemmas.List.{append-nil}
 use mathlib.Core.Option.{some, none}
 use mathlib.Core.Option as maybe
@@ -22,7 +22,7 @@ use Rattle.hx_base.specs.PlaceWords.{IsFace, IsPlaceState, resting_word, taken_w
 use Rattle.hx_base.proofs.PlaceWordLemmas.{one_state}
 use Rattle.hx_pool.specs.declared.board.BoardTerms.{BoardTerms}
 use Rattle.hx_pool.specs.declared.entries.Found.{Found}
-use Rattle.hx_pool.specs.declared.entries.Found.TheVariants.{Empty, Resting, Leaving}
+use Rattle.hx_pool.specs.declared.entries.Found.TheVariants.{Resting}
 use mathlib.Core.Logic.{dite}
 use native.Mathlib.Decide.{dec_lt}
 use Rattle.hx_pool.specs.declared.entries.Entry.TheVariants.{Park, Take, Free, Look}

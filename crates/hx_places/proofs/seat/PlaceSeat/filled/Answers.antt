@@ -1,4 +1,4 @@
-use Rattle.std.proofs.Common.{◌+◌, ℕ, ap, sym, ◌∙◌, arith, None, ◌∷◌}
+use Rattle.std.proofs.Common.{ℕ, ap, sym, ◌∙◌, arith, None, ◌∷◌}
 use Rattle.hx_pool.specs.Table.{spot_no}
 use Rattle.hx_places.specs.Views.{carried_of, claiming}
 use Rattle.hx_places.proofs.Slots.{claims}

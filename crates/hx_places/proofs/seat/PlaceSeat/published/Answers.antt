@@ -1,4 +1,4 @@
-use Rattle.std.proofs.Common.{◌+◌, ◌-◌, ◌<◌, ℕ, ◌∷◌, ap, sym, ◌∙◌, subst, arith, Option, Some, rules}
+use Rattle.std.proofs.Common.{◌-◌, ◌<◌, ℕ, ◌∷◌, ap, sym, ◌∙◌, subst, arith, Option, Some, rules}
 use mathlib.Core.Option as maybe
 use Rattle.atomic_table.specs.Table.{rest, Me, Allows, step}
 use Rattle.hx_base.specs.PlaceWords.{resting_word}
