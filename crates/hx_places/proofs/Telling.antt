@@ -23,7 +23,9 @@ module _ {V : Type 0} (shows : V → Shown) (b : BoardTerms) where
   M = Me (Option V) View
 
   -- the same table with other views
-  viewed : (s : St shows b) (r : R s) (views : List View) → ((j : ℕ) (v : View) → get_elem? views j ≡ some v → Sits b r.given r.log r.states r.owner j v) → R record { words = s.words; homes = s.homes; views = views }
+  viewed : (s : St shows b) (r : R s) (views : List View)
+      → ((j : ℕ) (v : View) → get_elem? views j ≡ some v → Sits b r.given r.log r.states r.owner j v)
+      → R record { words = s.words; homes = s.homes; views = views }
   viewed s r views each = record {
     log = r.log;
     states = r.states;
@@ -43,23 +45,36 @@ module _ {V : Type 0} (shows : V → Shown) (b : BoardTerms) where
   copies id v works s r here =
       let k = (knows shows b s r id v Works here works).2 in
       viewed s r (set s.views id v ++ copy_of v ∷ []) (λ j x e. ⊎_elim
-      (λ (e' : get_elem? (set s.views id v) j ≡ some x). r.each_seat j x (subst (λ (l : List View). get_elem? l j ≡ some x) (set_again s.views id v here) e'))
-      (λ (e' : copy_of v ≡ x). subst (Sits b r.given r.log r.states r.owner j) e' record { knows = (k.rest, k.whole); terms = λ z. cc; makes = λ z. cc })
+      (λ (e' : get_elem? (set s.views id v) j ≡ some x). r.each_seat j x
+      (subst (λ (l : List View). get_elem? l j ≡ some x) (set_again s.views id v here) e'))
+      (λ (e' : copy_of v ≡ x). subst
+      (Sits b r.given r.log r.states r.owner j) e' record {
+        knows = (k.rest, k.whole);
+        terms = λ z. cc;
+        makes =
+            λ z. cc;
+      })
       (at_snoc (set s.views id v) (copy_of v) x j e))
 
-  pub joins : (id : ℕ) (v : View) (other : ℕ) (w : View) → v.role ≡ Works → w.role ≡ Copy → Joins R id v other w (told_by v w) spent
+  pub joins : (id : ℕ) (v : View) (other : ℕ) (w : View) → v.role ≡ Works → w.role ≡ Copy
+      → Joins R id v other w (told_by v w) spent
   joins id v other w works copy s r here apart there =
       let both : View = told_by v w in
       let kn = knows shows b s r id v Works here works in
       let k = kn.2 in
       let sits = r.each_seat id v here in
-      let was : get_elem? s.views other ≡ some w = ⊎_elim (λ (t : (other ≡ id) × (both ≡ w)). absurd (apart t.0)) (λ (t : (other ≢ id) × (get_elem? s.views other ≡ some w)). t.1) (at_set s.views id other both w there) in
+      let was : get_elem? s.views other ≡ some w =
+      ⊎_elim (λ (t : (other ≡ id) × (both ≡ w)). absurd (apart t.0))
+      (λ (t : (other ≢ id) × (get_elem? s.views other ≡ some w)). t.1) (at_set s.views id other both w there) in
       let c = knows shows b s r other w Copy was copy in
       viewed s r (set (set s.views id both) other spent) (λ j x e. ⊎_elim
-      (λ (t : (j ≡ other) × (spent ≡ x)). subst (Sits b r.given r.log r.states r.owner j) t.1 record { knows = tt; terms = λ z. cc; makes = λ z. cc })
+      (λ (t : (j ≡ other) × (spent ≡ x)). subst
+      (Sits b r.given r.log r.states r.owner j) t.1 record { knows = tt; terms = λ z. cc; makes = λ z. cc })
       (λ (t : (j ≢ other) × (get_elem? (set s.views id both) j ≡ some x)). ⊎_elim
-      (λ (u : (j ≡ id) × (both ≡ x)). subst (λ (z : ℕ × View). Sits b r.given r.log r.states r.owner z.0 z.1) (λ i. (sym u.0 i, u.1 i)) record {
-        knows = subst (Knows r.given r.log r.states r.owner id both) (sym works) (kn.0, kn.1, record { rest = k.rest; whole = k.whole; others = k.others; own = k.own; told = c }, kn.3);
+      (λ (u : (j ≡ id) × (both ≡ x)). subst (λ (z : ℕ × View). Sits b r.given r.log r.states r.owner z.0 z.1)
+      (λ i. (sym u.0 i, u.1 i)) record {
+        knows = subst (Knows r.given r.log r.states r.owner id both) (sym works)
+            (kn.0, kn.1, record { rest = k.rest; whole = k.whole; others = k.others; own = k.own; told = c }, kn.3);
         terms = sits.terms;
         makes = sits.makes;
       })
@@ -67,19 +82,31 @@ module _ {V : Type 0} (shows : V → Shown) (b : BoardTerms) where
       (at_set s.views id j both x t.1))
       (at_set (set s.views id both) other j spent x e))
 
-  pub hears : (slots id : ℕ) (me : M) → me.0.role ≡ Works → Allows R slots id me 0 (λ k. k) (heard (step slots 0 0 0 none) me)
+  pub hears : (slots id : ℕ) (me : M) → me.0.role ≡ Works
+      → Allows R slots id me 0 (λ k. k) (heard (step slots 0 0 0 none) me)
   hears slots id me works s r deep here small =
       let v : View = me.0 in
       let kn = knows shows b s r id v Works here works in
       let k = kn.2 in
       let terms = terms_at shows b s r id v here works in
       let w : View = record v { seen = r.log; told = [] } in
-      let sees : Sees r.log w = record { rest = []; whole = sym (append-nil r.log); others = refl; own = whole_own r.log v k; told = (r.log, refl) } in
-      let did = steps shows b s r id v w r.log [] s.words s.homes r.states here works works refl terms (sym (append-nil r.log)) sees tt r.right refl refl r.heads r.each_place kn.3 (only_same v.thread r.states) in (
+      let sees : Sees r.log w =
+      record {
+        rest = [];
+        whole = sym (append-nil r.log);
+        others = refl;
+        own = whole_own r.log v k;
+        told =
+            (r.log, refl);
+      } in
+      let did = steps shows b s r id v w r.log [] s.words s.homes r.states here works works refl terms
+      (sym (append-nil r.log)) sees tt r.right refl refl r.heads r.each_place kn.3
+      (only_same v.thread r.states) in (
         w,
         keeps,
         tt,
-        subst (λ (ws : List ℕ). R record { words = ws; homes = s.homes; views = set s.views id w }) (sym (set-get_or s.words 0 0)) did,
+        subst (λ (ws : List ℕ). R record { words = ws; homes = s.homes; views = set s.views id w })
+            (sym (set-get_or s.words 0 0)) did,
         (
           refl,
           record {
@@ -88,7 +115,8 @@ module _ {V : Type 0} (shows : V → Shown) (b : BoardTerms) where
             view = ap (λ x. record v { seen = x; told = [] }) k.whole;
             told = sym k.whole ∙ k.told.1;
             others = k.others;
-            right = subst (λ (x : BoardTerms). IsRight x (v.seen ++ k.rest)) (sym terms) (subst (λ x. IsRight b x) k.whole r.right);
+            right = subst (λ (x : BoardTerms). IsRight x (v.seen ++ k.rest)) (sym terms)
+                (subst (λ x. IsRight b x) k.whole r.right);
           },
         ),
       )

@@ -13,7 +13,7 @@ use Rattle.hx_pool.specs.Table.{spot_no}
 use Rattle.hx_pool.specs.Rules.{allows}
 use Rattle.hx_pool.specs.Parking.{CanPark}
 use Rattle.hx_places.specs.declared.view.Hand.TheVariants.{Idle, Claims}
-use Rattle.hx_places.specs.Turns.{Turn, Call, AtEase, HasParked, FoundDrain, Settled, WentUp, IsBelow}
+use Rattle.hx_places.specs.Turns.{Call, AtEase, HasParked, FoundDrain, Settled, WentUp, IsBelow}
 use Rattle.hx_places.specs.Known.{WasVacant}
 use Rattle.hx_places.specs.Seats.{PlaceView, turn, history_of, IsOwn}
 

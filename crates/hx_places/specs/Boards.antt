@@ -11,7 +11,8 @@ module _ {V : Type 0} where
   -- the seats of all threads, in order, which have made and seen nothing
   pub record AreFirst (b : Board V) (seats : List PlaceView) : Type 0 where
     pub count : length seats ≡ b.terms.threads
-    pub each : (k : ℕ) (s : PlaceView) → slice_get seats k ≡ Some s → s ≡ first_seat b.terms (thread_at k) b.table.shared.table_id
+    pub each : (k : ℕ) (s : PlaceView) → slice_get seats k ≡ Some s
+        → s ≡ first_seat b.terms (thread_at k) b.table.shared.table_id
 
   -- a token that the board cut for the thread k
   abbrev pub IsCut : Board V → ℕ → Seat (Option V) View → Type 0

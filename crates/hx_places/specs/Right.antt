@@ -1,5 +1,5 @@
 -- A history that the rules of a board allow.
-use Rattle.std.specs.Prelude.{◌≡◌, ℕ, ◌+◌, ◌≤◌, List, [], ◌∷◌, None}
+use Rattle.std.specs.Prelude.{◌≡◌, ◌+◌, ◌≤◌, List, [], ◌∷◌, None}
 use Rattle.hx_base.specs.declared.numbers.ThreadNo.{ThreadNo}
 use Rattle.hx_pool.specs.declared.board.BoardTerms.{BoardTerms}
 use Rattle.hx_pool.specs.declared.entries.Entry.TheVariants.{Park}
@@ -20,8 +20,8 @@ abbrev pub ArePlain : List Note → Type 0
 ArePlain [] = Unit {0}
 ArePlain (x ∷ xs) = IsPlainNote x × ArePlain xs
 
--- each entry is a step of the table, and the reuse mode and the limit are kept; each thread made its own entries in turn,
--- and no more opens than it may; the count is what rests and what is owed
+-- each entry is a step of the table, and the reuse mode and the limit are kept; each thread made its own entries in
+-- turn, and no more opens than it may; the count is what rests and what is owed
 pub record IsRight (b : BoardTerms) (H : List Note) : Type 0 where
   pub legal : IsLegal H
   pub mode : KeepsMode b.rules H

@@ -1,6 +1,7 @@
--- Private: the rule of a board, which holds between any two steps. There is one history, which the rules allow; the words
--- show the table after it, and each seat has seen a beginning of it.
-use Rattle.std.specs.Prelude.{◌≡◌, ◌≢◌, ℕ, ◌+◌, ◌*◌, ◌/◌, ◌<◌, ◌≤◌, List, [], ◌∷◌, ◌++◌, length, slice_index, Option, Some, None}
+-- Private: the rule of a board, which holds between any two steps. There is one history, which the rules allow; the
+-- words show the table after it, and each seat has seen a beginning of it.
+use Rattle.std.specs.Prelude.{◌≡◌, ◌≢◌, ℕ, ◌+◌, ◌*◌, ◌/◌, ◌<◌, ◌≤◌, List, [], ◌∷◌, ◌++◌, length, slice_index}
+use Rattle.std.specs.Prelude.{Option, Some, None}
 use mathlib.Core.Option.{some, none}
 use mathlib.Core.Option as maybe
 use lib.ListN.{get_elem?}
@@ -30,7 +31,7 @@ abbrev pub Home : Type 0 → Type 0
 Home V = maybe.Option (maybe.Option (Option V))
 
 module _ {V : Type 0} (shows : V → Shown) where
-  -- a value of this face is at home, was dialled for the server, and shows what stands beside the last Park of its connection
+  -- a value of this face is at home, is to the server, and shows what stands beside the last Park of its connection
   pub record Rests (server : ServerNo) (whats : ℕ → Option What) (home : Home V) (f : Face) : Type 0 where
     pub v : V
     pub home_is : home ≡ some (some (Some v))
@@ -39,8 +40,8 @@ module _ {V : Type 0} (shows : V → Shown) where
     pub what_is : whats f.id.0 ≡ Some (shows v).what
     pub fine : IsFace f
 
-  -- the slot of a place of this state: at home where it is vacant or a connection rests, else with the thread that fills it
-  -- or took from it
+  -- the slot of a place of this state: at home where it is vacant or a connection rests, else with the thread that
+  -- fills it or took from it
   abbrev pub Lies : ServerNo → (ℕ → Option What) → Home V → PlaceState → Type 0
   Lies server whats home state.Vacant = home ≡ some (some None)
   Lies server whats home state.Filling = home ≡ some none
@@ -48,7 +49,8 @@ module _ {V : Type 0} (shows : V → Shown) where
   Lies server whats home (state.Taken t) = (home ≡ some none) × (t.0 < 16)
 
   -- the place has this state: its word shows it, the table has what stands there, and its slot lies so
-  pub record PlaceOk (server : ServerNo) (whats : ℕ → Option What) (word : ℕ) (home : Home V) (spot : Spot) (s : PlaceState) : Type 0 where
+  pub record PlaceOk (server : ServerNo) (whats : ℕ → Option What) (word : ℕ) (home : Home V) (spot : Spot)
+      (s : PlaceState) : Type 0 where
     pub shown : word ≡ place_word s
     pub stands : spot ≡ spot_of s
     pub lies : Lies server whats home s
@@ -84,7 +86,8 @@ Knows given log states owner seat v Copy = Begins log v.seen
 Knows given log states owner seat v Spent = Unit {0}
 
 -- the same, by the seat's own role, with the terms of the board
-pub record Sits (b : BoardTerms) (given : ℕ) (log : List Note) (states : ℕ → PlaceState) (owner : ℕ → ℕ) (seat : ℕ) (v : View) : Type 0 where
+pub record Sits (b : BoardTerms) (given : ℕ) (log : List Note) (states : ℕ → PlaceState) (owner : ℕ → ℕ)
+    (seat : ℕ) (v : View) : Type 0 where
   pub knows : Knows given log states owner seat v v.role
   pub terms : v.role ≡ Works → v.terms ≡ b
   pub makes : v.role ≡ Makes → v.terms ≡ b

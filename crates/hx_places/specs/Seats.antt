@@ -75,7 +75,8 @@ pub record Publishes (old new : PlaceView) (e : Note) : Type 0 where
   pub one : Stands new.view
 
 -- the call made a Take and a Free; the value is what rested at the place when it was taken
-pub record TakesAt (old new : PlaceView) (n : SessionNo) (first : Bool) (place : PlaceNo) (f : Face) (v : Shown) : Type 0 where
+pub record TakesAt (old new : PlaceView) (n : SessionNo) (first : Bool) (place : PlaceNo) (f : Face)
+    (v : Shown) : Type 0 where
   pub board : new.board ≡ old.board
   pub middle : View
   pub takes : Adds old.view.hand old.view middle (taken old.view.thread n first place f)

@@ -1,5 +1,5 @@
--- The order in which a thread makes its own entries. It counts up before it parks, and down after it took. After a Park it
--- reads the drain state, and where that shows draining it tries to take the connection back.
+-- The order in which a thread makes its own entries. It counts up before it parks, and down after it took. After a Park
+-- it reads the drain state, and where that shows draining it tries to take the connection back.
 use Rattle.std.specs.Prelude.{◌≡◌, ◌≢◌, ℕ, ◌<◌, Bool, cond, List, [], ◌∷◌, Option, IfSome}
 use Rattle.hx_base.specs.declared.numbers.PlaceNo.{PlaceNo}
 use Rattle.hx_base.specs.declared.numbers.Face.{Face}
@@ -15,7 +15,7 @@ pub data Due : Type 0 where
   WentUp : ℕ → Due
   HasTaken : Due
 
--- what a thread still owes a Park: nothing; the Gate that follows it; where that shows draining, the try to take it back
+-- what a thread still owes a Park: nothing; the Gate that follows; where that shows draining, the try to take it back
 pub data Call : Type 0 where
   AtEase : Call
   HasParked : PlaceNo → Face → Call
@@ -67,8 +67,8 @@ turn_of mine = turn_from first_turn mine
 abbrev pub IsBelow : Option ℕ → ℕ → Type 0
 IsBelow max old = IfSome max (λ m. old < m)
 
--- the entry is due, or may be made where nothing is: a Park after an Up below the greatest number, a Down after an Up or a
--- Take, and an Up and a Take where the count is settled
+-- the entry is due, or may be made where nothing is: a Park after an Up below the greatest number, a Down after an Up
+-- or a Take, and an Up and a Take where the count is settled
 abbrev pub CountsInTurn : Option ℕ → Due → Entry → Type 0
 CountsInTurn max d (Park t n id place uses) = (old : ℕ) × (d ≡ WentUp old) × IsBelow max old
 CountsInTurn max d (Take t n first place id uses) = d ≡ Settled

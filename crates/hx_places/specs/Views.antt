@@ -13,17 +13,31 @@ use Rattle.hx_pool.specs.History.{own_of, table_after, what_of}
 use Rattle.hx_places.specs.declared.view.View.{View}
 use Rattle.hx_places.specs.declared.view.Hand.{Hand}
 use Rattle.hx_places.specs.declared.view.Hand.TheVariants.{Idle, Claims}
+use Rattle.hx_places.specs.declared.view.Role.{Role}
 use Rattle.hx_places.specs.declared.view.Role.TheVariants.{Makes, Works, Copy, Spent}
 use Rattle.hx_places.specs.Right.{IsRight}
 use Rattle.hx_places.specs.Words.{IsPlaceWord}
 
+-- the view of a seat that has made and seen nothing
+abbrev pub unused : Role → BoardTerms → ThreadNo → View
+unused role b t = record {
+  role = role;
+  terms = b;
+  thread = t;
+  hand = Idle;
+  seen = [];
+  mine = [];
+  claimed = [];
+  told = [];
+}
+
 -- the view of the board's own seat, which gives the threads theirs
 abbrev pub maker : BoardTerms → View
-maker b = record { role = Makes; terms = b; thread = record { 0 = 0 }; hand = Idle; seen = []; mine = []; claimed = []; told = [] }
+maker b = unused Makes b (record { 0 = 0 })
 
--- the view of a thread's seat that has made and seen nothing
+-- the view of a thread's new seat
 abbrev pub worker : BoardTerms → ThreadNo → View
-worker b t = record { role = Works; terms = b; thread = t; hand = Idle; seen = []; mine = []; claimed = []; told = [] }
+worker b t = unused Works b t
 
 -- the next thread has its seat
 abbrev pub more_given : View → View
@@ -31,7 +45,7 @@ more_given v = record v { thread = record { 0 = v.thread.0 + 1 } }
 
 -- a seat that has seen what v had seen
 abbrev pub copy_of : View → View
-copy_of v = record { role = Copy; terms = v.terms; thread = v.thread; hand = Idle; seen = v.seen; mine = []; claimed = []; told = [] }
+copy_of v = record (unused Copy v.terms v.thread) { seen = v.seen }
 
 -- v was told what w has seen
 abbrev pub told_by : View → View → View
@@ -48,7 +62,7 @@ no_terms = record {
 
 -- the view of a seat that was joined to another
 abbrev pub spent : View
-spent = record { role = Spent; terms = no_terms; thread = record { 0 = 0 }; hand = Idle; seen = []; mine = []; claimed = []; told = [] }
+spent = unused Spent no_terms (record { 0 = 0 })
 
 -- a note that stands for none
 abbrev pub no_note : Note

@@ -1,6 +1,7 @@
 //! A thread's seat at a board.
 ghost use Rattle.std.specs.Prelude.{◌≡◌, ◌≢◌, ◌+◌, ◌*◌, ◌<◌, ◌≤◌, [], None, MatchResult};
-ghost use Rattle.hx_pool.specs.declared.entries.Entry.TheVariants.{Open, Close, Look, Up, Down, Count, Gate, SetGate, Round};
+ghost use Rattle.hx_pool.specs.declared.entries.Entry.TheVariants.{Open, Close, Look, Up, Down, Count};
+ghost use Rattle.hx_pool.specs.declared.entries.Entry.TheVariants.{Gate, SetGate, Round};
 ghost use Rattle.hx_pool.specs.History.{plain, opens_of};
 ghost use Rattle.hx_pool.specs.Opening.{open_limit, HasConn};
 ghost use Rattle.hx_pool.specs.Parking.{parked};
@@ -48,8 +49,10 @@ impl<'a, V: Faced> Model for PlaceSeat<'a, V> {
 }
 
 impl<'a, V: Faced> PlaceSeat<'a, V> {
-    ghost use Rattle.hx_places.specs.Asks.{CanClaim, CanPublish, CanTake, HasUp, IsAdmitted, IsAtEase, IsInTurn, MayReadGate};
-    ghost use Rattle.hx_places.specs.Seats.{turn, history_of, IsOfBoard, Notes, Publishes, TakesAt, Misses, Told, Stands, claiming_at, first_seat};
+    ghost use Rattle.hx_places.specs.Asks.{CanClaim, CanPublish, CanTake, HasUp, IsAdmitted};
+    ghost use Rattle.hx_places.specs.Asks.{IsAtEase, IsInTurn, MayReadGate};
+    ghost use Rattle.hx_places.specs.Seats.{turn, history_of, claiming_at, first_seat, IsOfBoard};
+    ghost use Rattle.hx_places.specs.Seats.{Notes, Publishes, TakesAt, Misses, Told, Stands};
     ghost use Rattle.hx_places.specs.Views.{worker};
 
     pub(crate) fn new(

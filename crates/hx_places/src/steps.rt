@@ -4,7 +4,8 @@ ghost use Rattle.std.specs.Prelude.{◌≡◌, ◌≢◌, ℕ, ◌<◌, ◌==◌
 ghost use Rattle.hx_base.specs.declared.place_word.PlaceState.{PlaceState};
 ghost use Rattle.hx_base.specs.declared.place_word.PlaceState.TheVariants as state;
 ghost use Rattle.hx_base.specs.PlaceWords.{IsPlaceState, place_word};
-ghost use Rattle.hx_pool.specs.declared.entries.Entry.TheVariants.{Open, Free, Close, Look, Up, Down, Count, Gate, SetGate, Round};
+ghost use Rattle.hx_pool.specs.declared.entries.Entry.TheVariants.{Open, Free, Close, Look};
+ghost use Rattle.hx_pool.specs.declared.entries.Entry.TheVariants.{Up, Down, Count, Gate, SetGate, Round};
 ghost use Rattle.hx_pool.specs.Table.{found_of};
 ghost use Rattle.hx_pool.specs.History.{plain, opens_of};
 ghost use Rattle.hx_pool.specs.Opening.{open_limit, HasConn};
@@ -20,8 +21,10 @@ use hx_base::{ConnId, Face, Faced, PlaceNo, PlaceState, SessionNo, pack_place};
 use hx_pool::Found;
 
 impl<'a, V: Faced> PlaceSeat<'a, V> {
-    ghost use Rattle.hx_places.specs.Asks.{CanClaim, CanPublish, CanTake, HasUp, IsAtEase, IsInTurn, MayReadGate};
-    ghost use Rattle.hx_places.specs.Seats.{turn, history_of, IsOfBoard, Notes, Publishes, TakesAt, Misses, Told, claiming_at};
+    ghost use Rattle.hx_places.specs.Asks.{CanClaim, CanPublish, CanTake, HasUp};
+    ghost use Rattle.hx_places.specs.Asks.{IsAtEase, IsInTurn, MayReadGate};
+    ghost use Rattle.hx_places.specs.Seats.{turn, history_of, claiming_at, IsOfBoard};
+    ghost use Rattle.hx_places.specs.Seats.{Notes, Publishes, TakesAt, Misses, Told};
 
     pub(crate) fn drawn<W: Says>(&mut self, n: SessionNo) -> ConnId
         requires session { n.0 ≢ 0 }

@@ -16,7 +16,9 @@ fetch_sub-requires g c =
     let said = rw (← c.self.view_is) at c.requires.said in (
       i.0,
       omega arith,
-      downs g.V.Faced.shows c.self.inside.shared.now.key _ c.self.inside.token.id c.self.inside.token.me g.W.Says.note k.role said (λ j. at_ease c.self.inside.shared.now.key.rules.max (turn_of v.mine) (Down v.thread j) ease due),
+      downs g.V.Faced.shows c.self.inside.shared.now.key _ c.self.inside.token.id c.self.inside.token.me
+          g.W.Says.note k.role said
+          (λ j. at_ease c.self.inside.shared.now.key.rules.max (turn_of v.mine) (Down v.thread j) ease due),
     )
 
 pub returns : goal.returns
@@ -24,5 +26,7 @@ returns g c =
     let s = c.self.inside in
     let said = rw (← c.self.view_is) at c.requires.said in
     rw (← c.self.view_is) (record {
-      notes = notes_of s.token.table_id c.fetch_sub.new.seat.table_id s.terms s.thread s.opened s.opened s.token.me.0 c.fetch_sub.new.seat.me.0 _ _ c.self.invariant.5 c.fetch_sub.ensures.0 (said c.fetch_sub.result) refl (omega arith) c.fetch_sub.ensures.2.1;
+      notes = notes_of s.token.table_id c.fetch_sub.new.seat.table_id s.terms s.thread s.opened s.opened s.token.me.0
+          c.fetch_sub.new.seat.me.0 _ _ c.self.invariant.5 c.fetch_sub.ensures.0 (said c.fetch_sub.result) refl
+          (omega arith) c.fetch_sub.ensures.2.1;
     })

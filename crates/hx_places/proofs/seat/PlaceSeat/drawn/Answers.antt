@@ -16,11 +16,17 @@ fetch_add-id-requires g c =
     let said = rw (← c.self.view_is) at c.requires.said in (
       i.0,
       omega arith,
-      draws g.V.Faced.shows c.self.inside.shared.now.key _ c.self.inside.token.id c.self.inside.token.me g.W.Says.note c.args.n k.role c.requires.session said room (λ j. at_ease c.self.inside.shared.now.key.rules.max (turn_of v.mine) (Open v.thread c.args.n (record { 0 = j })) ease tt),
+      draws g.V.Faced.shows c.self.inside.shared.now.key _ c.self.inside.token.id c.self.inside.token.me
+          g.W.Says.note c.args.n k.role c.requires.session said room
+          (λ j. at_ease c.self.inside.shared.now.key.rules.max (turn_of v.mine)
+          (Open v.thread c.args.n (record { 0 = j })) ease tt),
     )
 
 pub returns-clause-notes : goal.returns-clause-notes
 returns-clause-notes g c =
     let s = c.self.inside in
     let said = rw (← c.self.view_is) at c.requires.said in
-    rw (← c.self.view_is) (notes_of s.token.table_id c.fetch_add-id.new.seat.table_id s.terms s.thread s.opened (s.opened + 1) s.token.me.0 c.fetch_add-id.new.seat.me.0 _ _ c.self.invariant.5 c.fetch_add-id.ensures.0 (said c.fetch_add-id.result) refl (omega arith) c.fetch_add-id.ensures.2.0.1)
+    rw (← c.self.view_is)
+    (notes_of s.token.table_id c.fetch_add-id.new.seat.table_id s.terms s.thread s.opened
+    (s.opened + 1) s.token.me.0 c.fetch_add-id.new.seat.me.0 _ _ c.self.invariant.5 c.fetch_add-id.ensures.0
+    (said c.fetch_add-id.result) refl (omega arith) c.fetch_add-id.ensures.2.0.1)

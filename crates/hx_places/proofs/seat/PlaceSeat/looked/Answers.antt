@@ -23,8 +23,10 @@ load-word-requires g c =
     let said = rw (← c.self.view_is) at c.requires.said in (
       i.0,
       omega arith,
-      looks g.V.Faced.shows c.self.inside.shared.now.key _ c.self.inside.token.id c.self.inside.token.me g.W.Says.note c.args.place _ k.role number (omega arith) in_row said
-          (λ found. at_ease c.self.inside.shared.now.key.rules.max (turn_of v.mine) (Look v.thread c.args.place found) ease tt),
+      looks g.V.Faced.shows c.self.inside.shared.now.key _ c.self.inside.token.id c.self.inside.token.me
+          g.W.Says.note c.args.place _ k.role number (omega arith) in_row said
+          (λ found. at_ease c.self.inside.shared.now.key.rules.max (turn_of v.mine)
+          (Look v.thread c.args.place found) ease tt),
     )
 
 pub returns : goal.returns
@@ -34,7 +36,9 @@ returns g c =
     let did = c.load-word.ensures.2 in
     let state = did.1 in
     let shown = c.shown_by.ensures state.0 state.1 state.2 in
-    let entry = ap g.W.Says.note (sym state.2) ∙ (said state.0 state.1 ∙ ap (λ (f : Found). plain (Look s.token.me.0.thread c.args.place f)) (sym shown)) in
+    let entry = ap g.W.Says.note (sym state.2)
+    ∙ (said state.0 state.1 ∙ ap (λ (f : Found). plain (Look s.token.me.0.thread c.args.place f)) (sym shown)) in
     rw (← c.self.view_is) (record {
-      notes = notes_of s.token.table_id c.load-word.new.seat.table_id s.terms s.thread s.opened s.opened s.token.me.0 c.load-word.new.seat.me.0 _ _ c.self.invariant.5 c.load-word.ensures.0 entry refl (omega arith) did.0.1;
+      notes = notes_of s.token.table_id c.load-word.new.seat.table_id s.terms s.thread s.opened s.opened s.token.me.0
+          c.load-word.new.seat.me.0 _ _ c.self.invariant.5 c.load-word.ensures.0 entry refl (omega arith) did.0.1;
     })

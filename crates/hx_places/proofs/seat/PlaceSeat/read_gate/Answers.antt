@@ -14,7 +14,8 @@ load-requires g c =
     let said = rw (← c.self.view_is) at c.requires.said in (
       i.0,
       omega arith,
-      gates g.V.Faced.shows c.self.inside.shared.now.key _ c.self.inside.token.id c.self.inside.token.me g.W.Says.note k.role said (λ j. (tt, may_gate (turn_of v.mine).call v.thread (eqb j 1) ease)),
+      gates g.V.Faced.shows c.self.inside.shared.now.key _ c.self.inside.token.id c.self.inside.token.me
+          g.W.Says.note k.role said (λ j. (tt, may_gate (turn_of v.mine).call v.thread (eqb j 1) ease)),
     )
 
 pub returns : goal.returns
@@ -22,5 +23,7 @@ returns g c =
     let s = c.self.inside in
     let said = rw (← c.self.view_is) at c.requires.said in
     rw (← c.self.view_is) (record {
-      notes = notes_of s.token.table_id c.load.new.seat.table_id s.terms s.thread s.opened s.opened s.token.me.0 c.load.new.seat.me.0 _ _ c.self.invariant.5 c.load.ensures.0 (said c.load.result) refl (omega arith) c.load.ensures.2.1;
+      notes = notes_of s.token.table_id c.load.new.seat.table_id s.terms s.thread s.opened s.opened s.token.me.0
+          c.load.new.seat.me.0 _ _ c.self.invariant.5 c.load.ensures.0 (said c.load.result) refl
+          (omega arith) c.load.ensures.2.1;
     })

@@ -8,7 +8,11 @@ use Rattle.hx_places.proofs.seat.PlaceSeat.told.Goals as goal
 pub split_seat-copy-requires : goal.split_seat-copy-requires
 split_seat-copy-requires g c =
     let i = c.self.invariant in
-    let w = i.1 in (i.0, omega arith, copies g.V.Faced.shows c.self.inside.shared.now.key c.self.inside.token.id c.self.inside.token.me.0 i.5.role)
+    let w = i.1 in (
+      i.0,
+      omega arith,
+      copies g.V.Faced.shows c.self.inside.shared.now.key c.self.inside.token.id c.self.inside.token.me.0 i.5.role,
+    )
 
 pub join_seat-requires : goal.join_seat-requires
 join_seat-requires g c =
@@ -20,7 +24,8 @@ join_seat-requires g c =
       made.3 ∙ (board ∙ i.0),
       ap (λ m. m.1) made.4,
       omega arith,
-      joins g.V.Faced.shows c.other.inside.shared.now.key c.other.inside.token.id c.other.inside.token.me.0 c.split_seat-copy.result.id c.split_seat-copy.result.me.0 i.5.role (ap (λ m. m.0.role) made.4),
+      joins g.V.Faced.shows c.other.inside.shared.now.key c.other.inside.token.id c.other.inside.token.me.0
+          c.split_seat-copy.result.id c.split_seat-copy.result.me.0 i.5.role (ap (λ m. m.0.role) made.4),
     )
 
 pub load-requires : goal.load-requires
@@ -30,7 +35,8 @@ load-requires g c =
     let me = c.join_seat.ensures.2 in (
       c.join_seat.ensures.0 ∙ i.0,
       omega arith,
-      hears g.V.Faced.shows c.other.inside.shared.now.key _ c.join_seat.new.seat.id c.join_seat.new.seat.me (ap (λ m. m.0.role) me ∙ i.5.role),
+      hears g.V.Faced.shows c.other.inside.shared.now.key _ c.join_seat.new.seat.id c.join_seat.new.seat.me
+          (ap (λ m. m.0.role) me ∙ i.5.role),
     )
 
 pub invariant_of-other : goal.invariant_of-other
@@ -43,19 +49,28 @@ invariant_of-other g c =
       i.1,
       i.2,
       i.3,
-      did.0 ∙ (ap (λ m. m.1) me ∙ (i.4 ∙ (sym (ap (λ m. carried_of m.0.hand) me) ∙ sym (ap (λ v. carried_of v.hand) view)))),
-      after_hearing c.other.inside.terms c.other.inside.thread c.other.inside.opened c.join_seat.new.seat.me.0 c.load.new.seat.me.0 (after_told c.other.inside.terms c.other.inside.thread c.other.inside.opened c.other.inside.token.me.0 c.split_seat-copy.result.me.0 _ i.5 (ap (λ m. m.0) me)) did.1,
+      did.0 ∙ (ap (λ m. m.1) me
+          ∙ (i.4 ∙ (sym (ap (λ m. carried_of m.0.hand) me) ∙ sym (ap (λ v. carried_of v.hand) view)))),
+      after_hearing c.other.inside.terms c.other.inside.thread c.other.inside.opened c.join_seat.new.seat.me.0
+          c.load.new.seat.me.0
+          (after_told c.other.inside.terms c.other.inside.thread c.other.inside.opened c.other.inside.token.me.0
+          c.split_seat-copy.result.me.0 _ i.5 (ap (λ m. m.0) me)) did.1,
     )
 
 pub returns-clause-told : goal.returns-clause-told
 returns-clause-told g c =
     let did = c.load.ensures.2 in
     let copy = ap (λ m. m.0) c.split_seat-copy.ensures.4 in
-    let heard : c.join_seat.new.seat.me.0 ≡ told_by c.other.inside.token.me.0 (copy_of c.self.inside.token.me.0) = ap (λ m. m.0) c.join_seat.ensures.2 ∙ ap (told_by c.other.inside.token.me.0) copy in
+    let heard : c.join_seat.new.seat.me.0 ≡ told_by c.other.inside.token.me.0 (copy_of c.self.inside.token.me.0) =
+    ap (λ m. m.0) c.join_seat.ensures.2 ∙ ap (told_by c.other.inside.token.me.0) copy in
     rw (← c.self.view_is, ← c.other.view_is) (record {
       board = c.load.ensures.0 ∙ c.join_seat.ensures.0;
       hears = subst (λ (v : View). Hears v c.load.new.seat.me.0) heard did.1;
-      was = stands_of c.other.inside.terms c.other.inside.thread c.other.inside.opened c.other.inside.token.me.0 c.other.invariant.5;
+      was = stands_of c.other.inside.terms c.other.inside.thread c.other.inside.opened c.other.inside.token.me.0
+          c.other.invariant.5;
       one = stands_of c.other.inside.terms c.other.inside.thread c.other.inside.opened c.load.new.seat.me.0
-          (after_hearing c.other.inside.terms c.other.inside.thread c.other.inside.opened c.join_seat.new.seat.me.0 c.load.new.seat.me.0 (after_told c.other.inside.terms c.other.inside.thread c.other.inside.opened c.other.inside.token.me.0 c.split_seat-copy.result.me.0 _ c.other.invariant.5 (ap (λ m. m.0) c.join_seat.ensures.2)) did.1);
+          (after_hearing c.other.inside.terms c.other.inside.thread c.other.inside.opened c.join_seat.new.seat.me.0
+          c.load.new.seat.me.0
+          (after_told c.other.inside.terms c.other.inside.thread c.other.inside.opened c.other.inside.token.me.0
+          c.split_seat-copy.result.me.0 _ c.other.invariant.5 (ap (λ m. m.0) c.join_seat.ensures.2)) did.1);
     })

@@ -15,7 +15,9 @@ store-requires g c =
     let said = rw (← c.self.view_is) at c.requires.said in (
       i.0,
       omega arith,
-      sets g.V.Faced.shows c.self.inside.shared.now.key _ c.self.inside.token.id c.self.inside.token.me g.W.Says.note c.args.draining _ c.gate_word-word.ensures k.role said (at_ease c.self.inside.shared.now.key.rules.max (turn_of v.mine) (SetGate v.thread c.args.draining) ease tt),
+      sets g.V.Faced.shows c.self.inside.shared.now.key _ c.self.inside.token.id c.self.inside.token.me g.W.Says.note
+          c.args.draining _ c.gate_word-word.ensures k.role said
+          (at_ease c.self.inside.shared.now.key.rules.max (turn_of v.mine) (SetGate v.thread c.args.draining) ease tt),
     )
 
 pub returns : goal.returns
@@ -23,5 +25,7 @@ returns g c =
     let s = c.self.inside in
     let said = rw (← c.self.view_is) at c.requires.said in
     rw (← c.self.view_is) (record {
-      notes = notes_of s.token.table_id c.store.new.seat.table_id s.terms s.thread s.opened s.opened s.token.me.0 c.store.new.seat.me.0 _ _ c.self.invariant.5 c.store.ensures.0 (said c.gate_word-word.result) refl (omega arith) c.store.ensures.2.1;
+      notes = notes_of s.token.table_id c.store.new.seat.table_id s.terms s.thread s.opened s.opened s.token.me.0
+          c.store.new.seat.me.0 _ _ c.self.invariant.5 c.store.ensures.0 (said c.gate_word-word.result) refl
+          (omega arith) c.store.ensures.2.1;
     })
