@@ -1,5 +1,5 @@
 //! Values under numbers.
-ghost use Rattle.std.specs.Prelude.{◌≡◌, ◌+◌, ◌<◌, ◌≤◌, [], ◌∷◌, ◌++◌, length, IfOk, IfErr, OnOk, Some, option_copied};
+ghost use Rattle.std.specs.Prelude.{◌≡◌, ◌+◌, ◌<◌, ◌≤◌, [], ◌∷◌, ◌++◌, length, IfOk, IfErr, IsOk, OnOk, Some, option_copied};
 ghost use Rattle.std.specs.Option.{option_copied_mut};
 ghost use Rattle.std.specs.Borrow.{sem};
 ghost use Rattle.hx_numbered.specs.Numbers.{IsRising, AreBelow, IsAt, IsGapFor, IsJustAbove, value_of, removed, number_above};
@@ -80,6 +80,7 @@ impl<T> Numbered<T> {
     pub fn reserve(&mut self, more: usize) -> Result<(), NoMemory>
         ensures room { OnOk result (more ≤ self.new.room) }
         ensures items { self.new.items ≡ self.old.items }
+        ensures succeeds { 0 < more → more ≤ self.old.room → IsOk result }
     {
         if self.order.reserve(more).is_err() || self.slab.reserve(more).is_err() {
             return Err(NoMemory);
