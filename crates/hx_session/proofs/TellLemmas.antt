@@ -358,7 +358,7 @@ own_one d d2 status r is desk =
     subst (λ (y : DeskNow). TellsOne d y r) (sym desk) (subst (λ (x : Served). TellsOne d (emptied (after_record d d.taken)) x) (sym is)
     (record { worker = refl; session = refl; number = refl; ask = refl; gave = refl; next = refl; asked = refl; given = refl; client = link_same d.client }))
 
-own_of : (d : DeskNow) (status : ℕ) (held : Option RestedNow) (r : Served) (why : LeftCause) → IsAnswering d status → LeavesOwn d why → r ≡ served_of d (kind.Own status) d.taken
+pub own_of : (d : DeskNow) (status : ℕ) (held : Option RestedNow) (r : Served) (why : LeftCause) → IsAnswering d status → LeavesOwn d why → r ≡ served_of d (kind.Own status) d.taken
     → IsOfStage (own_stage status held) d why r r.kind
 own_of d status held r why a leaves is = subst (λ (x : Served). IsOfStage (own_stage status held) d why x x.kind) (sym is) (refl, own_true d status why a leaves)
 

@@ -17,15 +17,15 @@ use Rattle.hx_record.specs.declared.served.Served.{Served}
 use Rattle.hx_session.specs.declared.step.Waits.{Waits}
 use Rattle.hx_session.specs.Desks.{DeskNow}
 use Rattle.hx_session.specs.Moves.{with_client}
-use Rattle.hx_session.specs.Over.{IsTold, left_of}
+use Rattle.hx_session.specs.Over.{IsTold, left_of, served_of, after_record}
 use Rattle.hx_session.specs.Records.{EndsSession, Leaves, LeftStands, cut_ends, ends_after, leaves_for}
 use Rattle.hx_session.specs.Seen.{conn_seen, over_seen, own_seen, session_seen}
-use Rattle.hx_session.specs.Stages.{StageNow, Reading, Choosing, Exchanging, Answering, Left}
+use Rattle.hx_session.specs.Stages.{StageNow, Reading, Choosing, Exchanging, Answering, Left, IsAnswering, own_stage}
 use Rattle.hx_session.specs.Standing.{IsDone, IsGone, IsSound}
 use Rattle.hx_session.specs.Stopping.{ServesAtStop, StopsKind}
 use Rattle.hx_session.specs.Telling.{CarriesSame, TellsNone, TellsOne, IsToldOwn, IsOfStage, LeavesWith, TellsMoved, TellsEnd, DoneTells, StopsStage, HasNoRequest, StopTells, KindTold, RecordTold, RecordsTold, LeavesWithout, StepTold, StopTold, finished_by, stopped}
 use Rattle.hx_session.proofs.RecordLemmas.{told_stands}
-use Rattle.hx_session.proofs.TellLemmas.{link_then, told_on, own_on, plain_finish, reading_none, choosing_none, left_none}
+use Rattle.hx_session.proofs.TellLemmas.{link_same, link_then, own_of, told_on, own_on, plain_finish, reading_none, choosing_none, left_none}
 
 -- a session that goes on counts from 1
 pub sound_one : (d : DeskNow) (s : StageNow) → IsSound d s → over_seen s ≡ false → 1 ≤ d.number
@@ -159,6 +159,16 @@ stop_ends (Choosing x) (kind.Own status) left stop h = absurd h
 stop_ends Left (kind.Passed c) left stop h = absurd h
 stop_ends Left (kind.Cut c w) left stop h = absurd h
 stop_ends Left (kind.Own status) left stop h = absurd h
+
+pub stop_own : (d d1 : DeskNow) (status : ℕ) (held : Option RestedNow) (r : Served) → IsAnswering d status → r ≡ served_of d (kind.Own status) d.taken → d1 ≡ after_record d d.taken
+    → StopTells (own_stage status held) d d1 (Some r)
+stop_own d d1 status held r a is next = (
+  subst (λ (y : DeskNow). TellsOne d y r) (sym next) (subst (λ (x : Served). TellsOne d (after_record d d.taken) x) (sym is)
+  (record { worker = refl; session = refl; number = refl; ask = refl; gave = refl; next = refl; asked = refl; given = refl; client = link_same d.client })),
+  own_of d status held r cause.Stop a (inr (inr (inr refl))) is,
+  subst (λ (x : Served). StopsStage (own_stage status held) x.kind) (sym is) tt,
+  ap (λ (x : DeskNow). x.client.finished) next,
+)
 
 stop_record : (front : ℕ) (d d1 d' : DeskNow) (s : StageNow) (r : Served) (left : Leave) → 1 ≤ d.number → left.cause ≡ cause.Stop → CarriesSame d1.client d'.client → StopTells s d d1 (Some r)
     → RecordTold (session_seen front d s) (stopped (session_seen front d s) d'.client (Some r)) (Some left) r
