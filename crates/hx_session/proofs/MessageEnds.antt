@@ -1,6 +1,6 @@
 -- Where a message ends of which a part is on its way.
 use Rattle.std.proofs.Common.{◌≡◌, ℕ, ◌+◌, ◌-◌, ◌<◌, ◌≤◌, Bool, List, [], ◌∷◌, ◌++◌, length, take, drop, Ok, refl, sym, ap, subst, ◌∙◌, inl, inr, append_assoc, arith, length-append, Option, Some, None, ⊎_elim}
-use Rattle.std.proofs.lemmas.List.{take-append-drop, take-append-le, take_all, length-take, length-drop}
+use Rattle.std.proofs.lemmas.List.{append-nil, take-append-drop, take-append-le, take_all, length-take, length-drop}
 use Rattle.std.proofs.lemmas.Bool.{cases_lt}
 use Rattle.std.proofs.Math.Seq.{take-append-add, take-append_seam}
 use Rattle.httparse.specs.Grammar.{RequestHead, ResponseHead, ReadsRequest, ReadsResponse}
@@ -100,8 +100,8 @@ ask_tells taken put g kind meter w e =
     let one : List ℕ = 0 ∷ [] in
     let none : List ℕ = [] in
     let bytes = taken ++ one in
-    let first : HasWholeRequest bytes (length taken) = (omega (arith, length-append taken one), (m, subst (λ (xs : List ℕ). IsRequest xs m) (sym (take-append-add taken one 0))
-    (ask_more taken put none g kind meter w (subst (λ (k : BodyKind). IsBody k (w.body ++ none)) (sym e) tt)))) in
+    let first : HasWholeRequest bytes (length taken) = (omega (arith, length-append taken one), (m, subst (λ (xs : List ℕ). IsRequest xs m) (sym (take-append_seam taken one))
+    (subst (λ (xs : List ℕ). IsRequest xs m) (append-nil taken) (ask_more taken put none g kind meter w (subst (λ (k : BodyKind). IsBody k (w.body ++ none)) (sym e) tt))))) in
     let then : HasWholeRequest bytes (length taken + 1) = (omega (arith, length-append taken one), (m, subst (λ (xs : List ℕ). IsRequest xs m) (sym (take-append-add taken one 1))
     (ask_more taken put one g kind meter w (subst (λ (k : BodyKind). IsBody k (w.body ++ one)) (sym e) tt)))) in
     omega (arith, one_request_end bytes (length taken) (length taken + 1) first then)

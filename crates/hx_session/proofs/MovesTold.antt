@@ -8,6 +8,8 @@ use Rattle.hx_link.specs.Told.{LinkState}
 use Rattle.hx_base.specs.declared.numbers.Millis.{Millis}
 use Rattle.hx_conn.specs.Conns.{BusyNow}
 use Rattle.hx_conn.specs.Steps.{after_call}
+use Rattle.hx_session.specs.declared.exchange.AnswerWay.{AnswerWay}
+use Rattle.hx_session.specs.declared.exchange.AskWay.{AskWay}
 use Rattle.hx_session.specs.Desks.{DeskNow}
 use Rattle.hx_session.specs.Exchanged.{ExchangeNow}
 use Rattle.hx_session.specs.Stages.{Exchanging}
@@ -36,6 +38,13 @@ write_waits_same a b now bytes w = record { taken = ap (λ (l : LinkState). l.ta
 
 pub write_fails_same : (a b : LinkState) (now : ℕ) (bytes : List ℕ) → LinkWrites a b now put.Failed bytes → CarriesSame a b
 write_fails_same a b now bytes w = record { taken = ap (λ (l : LinkState). l.taken) w.0; sent = ap (λ (l : LinkState). l.sent) w.0; ended = ap (λ (l : LinkState). l.told_end) w.0 }
+
+-- the exchange but for how far its answer, or its request, is
+pub answer_same : (e : ExchangeNow) (answered : ℕ) (answer : AnswerWay) → IsSameExchange e (record e { answered = answered; answer = answer })
+answer_same e answered answer = record { server = refl; id = refl; uses = refl; sent_from = refl; taken_from = refl; link = link_same e.busy.link }
+
+pub ask_same : (e : ExchangeNow) (ask : AskWay) → IsSameExchange e (record e { ask = ask })
+ask_same e ask = record { server = refl; id = refl; uses = refl; sent_from = refl; taken_from = refl; link = link_same e.busy.link }
 
 -- the pipes and the moment change alone
 pub still_pipes : (d : DeskNow) (from to up down : PipeNow) (since : Millis) (e f : ExchangeNow) → IsSameExchange e f

@@ -156,17 +156,17 @@ of_answering a d0 d why r (kind.Passed c) client h = absurd h
 of_answering a d0 d why r (kind.Cut c w) client h = absurd h
 of_answering a d0 d why r (kind.Own status) client h = (h.0, own_back d0.client d.client why r client h.1)
 
-reading_none : (held : Option RestedNow) (d : DeskNow) (why : LeftCause) (r : Served) (k : Kind) → IsOfStage (Reading held) d why r k → ⊥
+pub reading_none : (held : Option RestedNow) (d : DeskNow) (why : LeftCause) (r : Served) (k : Kind) → IsOfStage (Reading held) d why r k → ⊥
 reading_none held d why r (kind.Passed c) h = h
 reading_none held d why r (kind.Cut c w) h = h
 reading_none held d why r (kind.Own status) h = h
 
-choosing_none : (c : ChoosingNow) (d : DeskNow) (why : LeftCause) (r : Served) (k : Kind) → IsOfStage (Choosing c) d why r k → ⊥
+pub choosing_none : (c : ChoosingNow) (d : DeskNow) (why : LeftCause) (r : Served) (k : Kind) → IsOfStage (Choosing c) d why r k → ⊥
 choosing_none c d why r (kind.Passed x) h = h
 choosing_none c d why r (kind.Cut x w) h = h
 choosing_none c d why r (kind.Own status) h = h
 
-left_none : (d : DeskNow) (why : LeftCause) (r : Served) (k : Kind) → IsOfStage Left d why r k → ⊥
+pub left_none : (d : DeskNow) (why : LeftCause) (r : Served) (k : Kind) → IsOfStage Left d why r k → ⊥
 left_none d why r (kind.Passed c) h = h
 left_none d why r (kind.Cut c w) h = h
 left_none d why r (kind.Own status) h = h
@@ -341,7 +341,7 @@ before_finish why f (inl e) = subst (λ (w : LeftCause). f ≡ finished_for w f)
 before_finish why f (inr (inl e)) = subst (λ (w : LeftCause). f ≡ finished_for w f) (sym e) refl
 before_finish why f (inr (inr e)) = subst (λ (w : LeftCause). f ≡ finished_for w f) (sym e) refl
 
-plain_finish : (why : LeftCause) (f : Bool) → LeavesPlainly why → f ≡ finished_for why f
+pub plain_finish : (why : LeftCause) (f : Bool) → LeavesPlainly why → f ≡ finished_for why f
 plain_finish why f (inl e) = subst (λ (w : LeftCause). f ≡ finished_for w f) (sym e) refl
 plain_finish why f (inr (inl e)) = subst (λ (w : LeftCause). f ≡ finished_for w f) (sym e) refl
 plain_finish why f (inr (inr e)) = subst (λ (w : LeftCause). f ≡ finished_for w f) (sym e) refl
@@ -351,7 +351,7 @@ own_finish d why f leaves = ⊎_elim (λ l. subst (λ (w : LeftCause). f ≡ fin
 
 -- the desk behind an own answer's record
 own_desk : (d d1 d2 : DeskNow) → d1 ≡ after_record d d.taken → d2 ≡ emptied d1 → d2 ≡ emptied (after_record d d.taken)
-own_desk d d1 d2 first then = then ∙ ap emptied first
+own_desk d d1 d2 first last = last ∙ ap emptied first
 
 own_one : (d d2 : DeskNow) (status : ℕ) (r : Served) → r ≡ served_of d (kind.Own status) d.taken → d2 ≡ emptied (after_record d d.taken) → TellsOne d d2 r
 own_one d d2 status r is desk =
@@ -364,8 +364,8 @@ own_of d status held r why a leaves is = subst (λ (x : Served). IsOfStage (own_
 
 pub own_told : (d d1 d2 : DeskNow) (status : ℕ) (held : Option RestedNow) (r : Served) (why : LeftCause) → IsAnswering d status → LeavesOwn d why → r ≡ served_of d (kind.Own status) d.taken
     → d1 ≡ after_record d d.taken → d2 ≡ emptied d1 → TellsEnd (own_stage status held) d d2 (Some r) why
-own_told d d1 d2 status held r why a leaves is first then =
-    let desk = own_desk d d1 d2 first then in (
+own_told d d1 d2 status held r why a leaves is first last =
+    let desk = own_desk d d1 d2 first last in (
       own_one d d2 status r is desk,
       own_of d status held r why a leaves is,
       subst (λ (x : Served). LeavesWith (ends_after x.kind) why) (sym is) (own_with d why leaves),

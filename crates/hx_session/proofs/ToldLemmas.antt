@@ -198,7 +198,7 @@ pub record StopsAt (d d1 d' : DeskNow) (seats : List History) (left : Leave) : T
   pub client : CarriesSame d1.client d'.client
   pub finished : d'.client.finished ≡ d1.client.finished
   pub gone : IsGone d' seats
-  pub left : left ≡ left_of d' cause.Stop
+  pub end : left ≡ left_of d' cause.Stop
 
 stop_leaves : (front : ℕ) (d d1 d' : DeskNow) (s : StageNow) (seats : List History) (served : Option Served) (left : Leave) → StopsAt d d1 d' seats left → StopTells s d d1 served
     → LeftStands (stopped (session_seen front d s) d'.client served) left
@@ -206,10 +206,10 @@ stop_leaves front d d1 d' s seats None left a t =
     let ask = ap (λ (x : DeskNow). x.ask_from) a.desk ∙ t.0.ask_from in
     let gave = ap (λ (x : DeskNow). x.gave_from) a.desk ∙ t.0.gave_from in
     record {
-      worker = ap (λ (l : Leave). l.worker) a.left ∙ a.who.0;
-      session = ap (λ (l : Leave). l.session) a.left ∙ a.who.1;
-      from = ap (λ (l : Leave). l.ask.from) a.left ∙ ask;
-      to = ap (λ (l : Leave). l.ask.to) a.left ∙ a.gone.tallied.taken;
+      worker = ap (λ (l : Leave). l.worker) a.end ∙ a.who.0;
+      session = ap (λ (l : Leave). l.session) a.end ∙ a.who.1;
+      from = ap (λ (l : Leave). l.ask.from) a.end ∙ ask;
+      to = ap (λ (l : Leave). l.ask.to) a.end ∙ a.gone.tallied.taken;
       gave = sym gave ∙ (a.gone.told ∙ a.gone.tallied.given);
       over = refl;
       conn = refl;
@@ -218,10 +218,10 @@ stop_leaves front d d1 d' s seats (Some r) left a t =
     let ask = ap (λ (x : DeskNow). x.ask_from) a.desk ∙ t.0.asked in
     let gave = ap (λ (x : DeskNow). x.gave_from) a.desk ∙ t.0.given in
     record {
-      worker = ap (λ (l : Leave). l.worker) a.left ∙ a.who.0;
-      session = ap (λ (l : Leave). l.session) a.left ∙ a.who.1;
-      from = ap (λ (l : Leave). l.ask.from) a.left ∙ ask;
-      to = ap (λ (l : Leave). l.ask.to) a.left ∙ a.gone.tallied.taken;
+      worker = ap (λ (l : Leave). l.worker) a.end ∙ a.who.0;
+      session = ap (λ (l : Leave). l.session) a.end ∙ a.who.1;
+      from = ap (λ (l : Leave). l.ask.from) a.end ∙ ask;
+      to = ap (λ (l : Leave). l.ask.to) a.end ∙ a.gone.tallied.taken;
       gave = sym gave ∙ (a.gone.told ∙ a.gone.tallied.given);
       over = refl;
       conn = refl;
@@ -239,8 +239,8 @@ stop_serves front d d1 (Answering a) None t = absurd t.1
 stop_serves front d d1 Left None t = absurd t.1
 stop_serves front d d1 (Reading held) (Some r) t = absurd (reading_none held d cause.Stop r r.kind t.1)
 stop_serves front d d1 (Choosing c) (Some r) t = absurd (choosing_none c d cause.Stop r r.kind t.1)
-stop_serves front d d1 (Exchanging e) (Some r) t = tt
-stop_serves front d d1 (Answering a) (Some r) t = tt
+stop_serves front d d1 (Exchanging e) (Some r) t = refl
+stop_serves front d d1 (Answering a) (Some r) t = refl
 stop_serves front d d1 Left (Some r) t = absurd (left_none d cause.Stop r r.kind t.1)
 
 stop_kind : (front : ℕ) (d : DeskNow) (s : StageNow) (r : Served) (k : Kind) → IsOfStage s d cause.Stop r k → StopsStage s k → StopsKind (session_seen front d s) k
@@ -265,7 +265,7 @@ stop_finished d d1 s (Some r) t = t.3
 pub stop_told : (front : ℕ) (d d1 d' : DeskNow) (s : StageNow) (seats : List History) (served : Option Served) (left : Leave) → 1 ≤ d.number → StopsAt d d1 d' seats left → StopTells s d d1 served
     → StopTold (session_seen front d s) d'.client left served
 stop_told front d d1 d' s seats served left some a t = record {
-  records = stop_records front d d1 d' s served left some (ap (λ (l : Leave). l.cause) a.left) a.client t;
+  records = stop_records front d d1 d' s served left some (ap (λ (l : Leave). l.cause) a.end) a.client t;
   leaves = stop_leaves front d d1 d' s seats served left a t;
   serves = stop_serves front d d1 s served t;
   kind = stop_kinds front d d1 s served t;

@@ -48,7 +48,7 @@ returns-clause-tells g c =
       };
       finished = ap (λ (l : LinkState). l.finished) gone.client;
       gone = gone.gone;
-      left = c.leave-left.ensures ∙ ap (λ (w : LeftCause). left_of d2 w) stage.cause;
+      end = c.leave-left.ensures ∙ ap (λ (w : LeftCause). left_of d2 w) stage.cause;
     } in
     subst (λ (x : SessionNow). StopTold x d2.client c.leave-left.result c.stop_stage-cause.result.served) c.self.view_is
     (stop_told front d d1 d2 s news c.stop_stage-cause.result.served c.leave-left.result some at stage.told)
