@@ -108,16 +108,24 @@ interim_none m bytes middle g k reads interim ((inside, (g', kind, x, own)), y) 
     let b = behind_short y.interims front more y.rest middle y.body g y.head here interim y.begins y.reads y.final in (
       j,
       (
-        (omega arith, (g', kind, record {
-          interims = a.heads;
-          rest = x.rest;
-          begins = a.holds;
-          body = x.body;
-          reads = x.reads;
-          final = x.final;
-          framed = x.framed;
-          whole = x.whole;
-        }, own)),
+        (
+          omega arith,
+          (
+            g',
+            kind,
+            record {
+              interims = a.heads;
+              rest = x.rest;
+              begins = a.holds;
+              body = x.body;
+              reads = x.reads;
+              final = x.final;
+              framed = x.framed;
+              whole = x.whole;
+            },
+            own,
+          ),
+        ),
         record {
           interims = b.heads;
           rest = y.rest;

@@ -100,10 +100,22 @@ ask_tells taken put g kind meter w e =
     let one : List ℕ = 0 ∷ [] in
     let none : List ℕ = [] in
     let bytes = taken ++ one in
-    let first : HasWholeRequest bytes (length taken) = (omega (arith, length-append taken one), (m, subst (λ (xs : List ℕ). IsRequest xs m) (sym (take-append_seam taken one))
-    (subst (λ (xs : List ℕ). IsRequest xs m) (append-nil taken) (ask_more taken put none g kind meter w (subst (λ (k : BodyKind). IsBody k (w.body ++ none)) (sym e) tt))))) in
-    let then : HasWholeRequest bytes (length taken + 1) = (omega (arith, length-append taken one), (m, subst (λ (xs : List ℕ). IsRequest xs m) (sym (take-append-add taken one 1))
-    (ask_more taken put one g kind meter w (subst (λ (k : BodyKind). IsBody k (w.body ++ one)) (sym e) tt)))) in
+    let first : HasWholeRequest bytes (length taken) = (
+      omega (arith, length-append taken one),
+      (
+        m,
+        subst (λ (xs : List ℕ). IsRequest xs m) (sym (take-append_seam taken one))
+            (subst (λ (xs : List ℕ). IsRequest xs m) (append-nil taken) (ask_more taken put none g kind meter w (subst (λ (k : BodyKind). IsBody k (w.body ++ none)) (sym e) tt))),
+      ),
+    ) in
+    let then : HasWholeRequest bytes (length taken + 1) = (
+      omega (arith, length-append taken one),
+      (
+        m,
+        subst (λ (xs : List ℕ). IsRequest xs m) (sym (take-append-add taken one 1))
+            (ask_more taken put one g kind meter w (subst (λ (k : BodyKind). IsBody k (w.body ++ one)) (sym e) tt)),
+      ),
+    ) in
     omega (arith, one_request_end bytes (length taken) (length taken + 1) first then)
 
 same_kind : (k l : BodyKind) (r s : Framed) → r ≡ s → r ≡ Ok k → s ≡ Ok l → k ≡ l

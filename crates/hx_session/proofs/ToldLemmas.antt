@@ -164,7 +164,7 @@ pub stop_own : (d d1 : DeskNow) (status : ℕ) (held : Option RestedNow) (r : Se
     → StopTells (own_stage status held) d d1 (Some r)
 stop_own d d1 status held r a is next = (
   subst (λ (y : DeskNow). TellsOne d y r) (sym next) (subst (λ (x : Served). TellsOne d (after_record d d.taken) x) (sym is)
-  (record { worker = refl; session = refl; number = refl; ask = refl; gave = refl; next = refl; asked = refl; given = refl; client = link_same d.client })),
+      (record { worker = refl; session = refl; number = refl; ask = refl; gave = refl; next = refl; asked = refl; given = refl; client = link_same d.client })),
   own_of d status held r cause.Stop a (inr (inr (inr refl))) is,
   subst (λ (x : Served). StopsStage (own_stage status held) x.kind) (sym is) tt,
   ap (λ (x : DeskNow). x.client.finished) next,
