@@ -31,6 +31,7 @@ use Rattle.hx_session.specs.Stages.{own_stage, StageNow, ChoosingNow, Reading, C
 use Rattle.hx_session.specs.declared.stage.Came.{Came}
 use Rattle.hx_session.specs.declared.stage.Came.TheVariants.{On, Moved, Ends}
 use Rattle.hx_session.specs.declared.stage.Ending.{Ending}
+use Rattle.hx_session.specs.Telling.{CameTells, TellsEnd}
 use Rattle.hx_session.specs.Standing.{CamePlaced, CameRouted, Goes, IsTallied, IsCounted, IsNumbered, IsSet, IsPlaced, IsLeaving, KeepsWho, KeepsDesk, KeepsAsk, KeepsPlace, IsSameConn, IsRoutedTo, server_held, server_of, GoesToHeld}
 
 pub desk_none : (d : DeskNow) → KeepsDesk d d
@@ -185,11 +186,12 @@ placed_on d d' e e' seats p k c carried failed = record { set = set_on d d' e e'
 
 -- a part of a step after which the session leaves
 pub goes_ends : {X : Type 0} (d d' : DeskNow) (s : StageNow) (seats seats' : List History) (net net' : NetState) (c : Came X) (x : Ending X) → c ≡ Ends x → KeepsPlace d d' seats seats' net net'
-    → IsLeaving d' x.held seats' → Goes d s seats net d' c seats' net'
-goes_ends {X = X} d d' s seats seats' net net' c x is keeps leaving = record {
+    → IsLeaving d' x.held seats' → TellsEnd s d d' x.served x.cause → Goes d s seats net d' c seats' net'
+goes_ends {X = X} d d' s seats seats' net net' c x is keeps leaving told = record {
   placed = subst (λ (y : Came X). CamePlaced d' y seats') (sym is) leaving;
   keeps = keeps;
   routed = λ back r. subst (λ (y : Came X). CameRouted back y) (sym is) tt;
+  told = subst (λ (y : Came X). CameTells d s d' y) (sym is) told;
 }
 
 -- an own answer whose record is given

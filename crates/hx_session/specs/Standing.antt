@@ -20,6 +20,7 @@ use Rattle.hx_session.specs.Exchanged.{ExchangeNow}
 use Rattle.hx_session.specs.Fits.{GoesTo}
 use Rattle.hx_session.specs.Seen.{conn_seen}
 use Rattle.hx_session.specs.Stages.{StageNow, Reading, Choosing, Exchanging, Answering, Left, StandsSo, stage_now}
+use Rattle.hx_session.specs.Telling.{CameTells, TellsNone}
 
 -- the session's own number isn't the caretaker's, and its records are numbered from 1, each with a byte of a request at least
 pub record IsCounted (d : DeskNow) : Type 0 where
@@ -158,6 +159,7 @@ pub record Goes {X : Type 0} (d : DeskNow) (s : StageNow) (seats : List History)
   pub placed : CamePlaced d' came seats'
   pub keeps : KeepsPlace d d' seats seats' net net'
   pub routed : (back : Back) → IsRoutedTo back s → CameRouted back came
+  pub told : CameTells d s d' came
 
 -- the same of a part that only comes to another stage
 pub record ComesTo (d : DeskNow) (s : StageNow) (seats : List History) (net : NetState)
@@ -165,6 +167,7 @@ pub record ComesTo (d : DeskNow) (s : StageNow) (seats : List History) (net : Ne
   pub placed : IsPlaced d' s' seats'
   pub keeps : KeepsPlace d d' seats seats' net net'
   pub routed : (back : Back) → IsRoutedTo back s → IsRoutedTo back s'
+  pub told : TellsNone d d'
 
 -- what always holds of a session between its calls
 abbrev pub IsSound : DeskNow → StageNow → Type 0

@@ -11,13 +11,14 @@ ghost use Rattle.hx_session_parts.specs.Answers.{IsInterimAt, IsAnswerTo};
 ghost use Rattle.hx_session.specs.declared.exchange.AnswerWay.TheVariants.{Heads, Body};
 ghost use Rattle.hx_session.specs.Desks.{DeskNow, desk_now};
 ghost use Rattle.hx_session.specs.Ending.{HasOwnText};
-ghost use Rattle.hx_session.specs.Exchanged.{exchange_now};
+ghost use Rattle.hx_session.specs.Exchanged.{ExchangeNow, exchange_now};
 ghost use Rattle.hx_session.specs.Carried.{IsCarried};
-ghost use Rattle.hx_session.specs.Over.{IsOver, IsTold};
+ghost use Rattle.hx_session.specs.Over.{IsOver, IsTold, closing_of};
 ghost use Rattle.hx_session.specs.Finishing.{MayDo, DoesAtEnd, IsAnswerGiven, WasOver, EndsAnswer, RestsTo};
 ghost use Rattle.hx_session.specs.Passing.{PassesBody, BeginsBody};
-ghost use Rattle.hx_session.specs.Stages.{Reading, Exchanging};
+ghost use Rattle.hx_session.specs.Stages.{StageNow, Reading, Exchanging};
 ghost use Rattle.hx_session.specs.Standing.{IsPlaced, CamePlaced, IsRoutedTo, CameRouted, KeepsDesk, KeepsAsk, IsSameConn, KeepsPlace, Goes};
+ghost use Rattle.hx_session.specs.Telling.{IsStillTold, GivesPassed, CameTells};
 
 use crate::cuts::look_down;
 use crate::desk::Desk;
@@ -179,6 +180,8 @@ fn pass_ask<L: Link>(desk: &mut Desk<L>, exchange: &mut Exchange<L>)
     ensures conn { IsSameConn (exchange_now exchange.old) (exchange_now exchange.new) }
     ensures good { exchange.new.busy.exchange.failed ≡ exchange.old.busy.exchange.failed }
     ensures keeps { KeepsAsk (desk_now L.state desk.old) (desk_now L.state desk.new) }
+    ensures told { IsStillTold (desk_now L.state desk.old) (Exchanging (exchange_now exchange.old))
+        (desk_now L.state desk.new) (Exchanging (exchange_now exchange.new)) }
 {
     let fed = pass_body(&mut exchange.ask.meter, &mut desk.from, &mut desk.up);
     exchange.ask.state = fed.state;
@@ -210,6 +213,8 @@ fn pass_answer<L: Link>(desk: &mut Desk<L>, exchange: &mut Exchange<L>, now: Mil
     ensures conn { IsSameConn (exchange_now exchange.old) (exchange_now exchange.new) }
     ensures good { exchange.new.busy.exchange.failed ≡ exchange.old.busy.exchange.failed }
     ensures keeps { KeepsAsk (desk_now L.state desk.old) (desk_now L.state desk.new) }
+    ensures told { IsStillTold (desk_now L.state desk.old) (Exchanging (exchange_now exchange.old))
+        (desk_now L.state desk.new) (Exchanging (exchange_now exchange.new)) }
 {
     desk.waits_since = desk.wait_start(now);
     let taken_to = exchange.busy.taken().to;
@@ -263,6 +268,8 @@ fn spell_interim<L: Link>(
     ensures conn { IsSameConn (exchange_now exchange.old) (exchange_now exchange.new) }
     ensures good { exchange.new.busy.exchange.failed ≡ exchange.old.busy.exchange.failed }
     ensures keeps { KeepsAsk (desk_now L.state desk.old) (desk_now L.state desk.new) }
+    ensures told { IsStillTold (desk_now L.state desk.old) (Exchanging (exchange_now exchange.old))
+        (desk_now L.state desk.new) (Exchanging (exchange_now exchange.new)) }
 {
     let taken_to = exchange.busy.taken().to;
     let since = desk.wait_start(now);
@@ -288,6 +295,8 @@ fn spell_final<L: Link>(
     ensures conn { IsSameConn (exchange_now exchange.old) (exchange_now exchange.new) }
     ensures good { exchange.new.busy.exchange.failed ≡ exchange.old.busy.exchange.failed }
     ensures keeps { KeepsAsk (desk_now L.state desk.old) (desk_now L.state desk.new) }
+    ensures told { IsStillTold (desk_now L.state desk.old) (Exchanging (exchange_now exchange.old))
+        (desk_now L.state desk.new) (Exchanging (exchange_now exchange.new)) }
 {
     let taken_to = exchange.busy.taken().to;
     let body = body_way(answered, exchange.ask.wants_close, exchange.ask.written);
@@ -305,6 +314,8 @@ fn spell_final<L: Link>(
 fn goes_on<L: Link>(exchange: Exchange<L>, waits: Waiting, moved: bool) -> Came<L>
     ensures placed { (d : DeskNow) (seats : List History) → IsPlaced d (Exchanging (exchange_now exchange)) seats → CamePlaced d result seats }
     ensures routed { (back : Back) → IsRoutedTo back (Exchanging (exchange_now exchange)) → CameRouted back result }
+    ensures told { (d0 d : DeskNow) (s0 : StageNow) → IsStillTold d0 s0 d (Exchanging (exchange_now exchange))
+        → CameTells d0 s0 d result }
 {
     let stage = Stage::Exchanging(exchange);
     if moved {
@@ -316,7 +327,8 @@ fn goes_on<L: Link>(exchange: Exchange<L>, waits: Waiting, moved: bool) -> Came<
 
 /// A fault of the server's side, which a 502 answers where nothing was given yet.
 fn bad_gateway(cause: CutCause, now: Millis, waits: Waiting) -> (CutCause, Own)
-    ensures { HasOwnText result.1.status }
+    ensures known { HasOwnText result.1.status }
+    ensures same { result.0 ≡ cause }
 {
     (
         cause,
@@ -404,6 +416,7 @@ fn pass<L: Link, S: Seat<Rested<L>>, N: Net<L = L>>(
     ensures keeps { KeepsPlace (desk_now L.state desk.old) (desk_now L.state desk.new) (map S.history seats.old) (map S.history seats.new)
         (N.state net.old) (N.state net.new) }
     ensures server { RestsTo exchange.busy.server result.1 }
+    ensures gives { GivesPassed (desk_now L.state desk.old) (desk_now L.state desk.new) (exchange_now exchange) result.0 }
 {
     let served = tell_passed(desk, &exchange);
     let busy = end_answer(exchange);
@@ -445,6 +458,9 @@ fn after_pass<L: Link>(
     ensures placed { (seats : List History) → IsPlaced (desk_now L.state desk.old) (Reading held) seats → CamePlaced (desk_now L.state desk.new) result seats }
     ensures keeps { KeepsDesk (desk_now L.state desk.old) (desk_now L.state desk.new) }
     ensures routed { (back : Back) → IsRoutedTo back (Reading held) → CameRouted back result }
+    ensures told { (d : DeskNow) (e : ExchangeNow) → closing ≡ closing_of e.answer
+        → GivesPassed d (desk_now L.state desk.old) e served → ((why : Cause) → IsTold d.client e.busy.link why served)
+        → CameTells d (Exchanging e) (desk_now L.state desk.new) result }
 {
     if closing {
         desk.client.finish();

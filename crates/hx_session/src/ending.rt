@@ -19,6 +19,8 @@ ghost use Rattle.hx_session.specs.Stages.{Exchanging, StandsSo, own_stage, stage
 ghost use Rattle.hx_session.specs.Ending.{CutsOff, EndsInCut, HasOwnText, AnswersOwn};
 ghost use Rattle.hx_session.specs.Standing.{IsCounted, IsLeaving, IsPlaced, IsSet, KeepsPlace, Goes};
 ghost use Rattle.hx_link.specs.Told.{most_bytes};
+ghost use Rattle.hx_session.specs.Records.{cut_ends};
+ghost use Rattle.hx_session.specs.Telling.{LeavesOwn, StopTells};
 
 use crate::cuts::{answer_end, ask_end};
 use crate::desk::Desk;
@@ -141,6 +143,7 @@ pub(crate) fn cut<L: Link, S: Seat<Rested<L>>, N: Net<L = L>>(
     net: &mut N,
     cause: CutCause,
 ) -> Came<L>
+    requires ends { cut_ends cause ≡ left_cause.Cut }
     requires set { IsSet (desk_now L.state desk.old) (Exchanging (exchange_now exchange)) (map S.history seats.old) }
     ensures ends { EndsInCut (desk_now L.state desk.old) (desk_now L.state desk.new) (exchange_now exchange) cause result }
     ensures goes { Goes (desk_now L.state desk.old) (Exchanging (exchange_now exchange)) (map S.history seats.old) (N.state net.old)
@@ -187,6 +190,7 @@ pub(crate) fn end_by_server<L: Link, S: Seat<Rested<L>>, N: Net<L = L>>(
     why: (CutCause, Own),
 ) -> Came<L>
     requires known { HasOwnText why.1.status }
+    requires ends { cut_ends why.0 ≡ left_cause.Cut }
     requires set { IsSet (desk_now L.state desk.old) (Exchanging (exchange_now exchange)) (map S.history seats.old) }
     ensures goes { Goes (desk_now L.state desk.old) (Exchanging (exchange_now exchange)) (map S.history seats.old) (N.state net.old)
         (desk_now L.state desk.new) result (map S.history seats.new) (N.state net.new) }
@@ -213,6 +217,7 @@ pub(crate) fn lose_server<L: Link, S: Seat<Rested<L>>, N: Net<L = L>>(
     why: (CutCause, Own),
 ) -> Came<L>
     requires known { HasOwnText why.1.status }
+    requires ends { cut_ends why.0 ≡ left_cause.Cut }
     requires set { IsSet (desk_now L.state desk.old) (Exchanging (exchange_now exchange)) (map S.history seats.old) }
     ensures goes { Goes (desk_now L.state desk.old) (Exchanging (exchange_now exchange)) (map S.history seats.old) (N.state net.old)
         (desk_now L.state desk.new) result (map S.history seats.new) (N.state net.new) }
@@ -232,6 +237,7 @@ pub(crate) fn leave_answering<L: Link>(
 ) -> Came<L>
     requires stands { StandsSo (desk_now L.state desk.old) (stage_of_answering answering) }
     requires counted { IsCounted (desk_now L.state desk.old) }
+    requires cause { LeavesOwn (desk_now L.state desk.old) left }
     ensures goes { (seats : List History) (net : NetState) → IsPlaced (desk_now L.state desk.old) (stage_of_answering answering) seats
         → Goes (desk_now L.state desk.old) (stage_of_answering answering) seats net (desk_now L.state desk.new) result seats net }
 {
@@ -241,13 +247,13 @@ pub(crate) fn leave_answering<L: Link>(
     leave_after(left, held, served)
 }
 
-/// Cuts the exchange that is under way, or leaves, with the record of an own answer where one was decided.
+/// The client's link failed: the exchange that is under way is cut off, or the session leaves, with the record of an own answer where
+/// one was decided.
 pub(crate) fn leave_or_cut<L: Link, S: Seat<Rested<L>>, N: Net<L = L>>(
     desk: &mut Desk<L>,
     stage: Stage<L>,
     seats: &mut [S],
     net: &mut N,
-    left: LeftCause,
 ) -> Came<L>
     requires placed { IsPlaced (desk_now L.state desk.old) (stage_now stage) (map S.history seats.old) }
     ensures goes { Goes (desk_now L.state desk.old) (stage_now stage) (map S.history seats.old) (N.state net.old)
@@ -255,9 +261,9 @@ pub(crate) fn leave_or_cut<L: Link, S: Seat<Rested<L>>, N: Net<L = L>>(
 {
     match stage {
         Stage::Exchanging(exchange) => cut(desk, exchange, seats, net, CutCause::Client),
-        Stage::Reading(held) => leave(left, held),
-        Stage::Choosing(Choosing { held, .. }) => leave(left, held),
-        Stage::Answering(answering) => leave_answering(desk, answering, left),
+        Stage::Reading(held) => leave(LeftCause::Fault, held),
+        Stage::Choosing(Choosing { held, .. }) => leave(LeftCause::Fault, held),
+        Stage::Answering(answering) => leave_answering(desk, answering, LeftCause::Fault),
         Stage::Left => Came::Moved(Stage::Left, Waiting::Nothing, None),
     }
 }
@@ -275,6 +281,7 @@ pub(crate) fn stop_stage<L: Link, S: Seat<Rested<L>>, N: Net<L = L>>(
         (N.state net.old) (N.state net.new) }
     ensures client { L.state desk.new.client ≡ L.state desk.old.client }
     ensures cause { result.cause ≡ left_cause.Stop }
+    ensures told { StopTells (stage_now stage) (desk_now L.state desk.old) (desk_now L.state desk.new) result.served }
 {
     let cause = LeftCause::Stop;
     match stage {

@@ -8,12 +8,14 @@ ghost use Rattle.hx_pool.specs.SeatView.{History};
 ghost use Rattle.hx_connecting.specs.Around.{abouts};
 ghost use Rattle.hx_connecting.specs.Choice.{HaveSeats};
 ghost use Rattle.hx_session.specs.Desks.{DeskNow, desk_now};
-ghost use Rattle.hx_session.specs.Exchanged.{exchange_now};
+ghost use Rattle.hx_session.specs.Exchanged.{ExchangeNow, exchange_now};
 ghost use Rattle.hx_session.specs.Ending.{HasOwnText};
 ghost use Rattle.hx_session.specs.declared.moves.Move.TheVariants.{Failed};
-ghost use Rattle.hx_session.specs.Stages.{Left as Gone, Reading, Exchanging, StandsSo, IsBetween, stage_now, stage_of_answering, stage_of_choosing};
+ghost use Rattle.hx_session.specs.Moves.{with_client};
+ghost use Rattle.hx_session.specs.Stages.{StageNow, Left as Gone, Reading, Exchanging, StandsSo, IsBetween, stage_now, stage_of_answering, stage_of_choosing};
 ghost use Rattle.hx_session.specs.Standing.{IsCounted, IsPlaced, CamePlaced, IsRoutedTo, CameRouted, KeepsPlace, KeepsOver, Goes, IsDone, IsGone, IsLeaving, IsSet};
 ghost use Rattle.hx_session.specs.Still.{WantsClient};
+ghost use Rattle.hx_session.specs.Telling.{MoveTells, CameTells, TellsEnd, DoneTells};
 
 use crate::answers::{At, go_on};
 use crate::asks::{choose_server, go_out, read_head};
@@ -199,7 +201,7 @@ fn give_some<L: Link, S: Seat<Rested<L>>, N: Net<L = L>>(
     match give(desk, at.now) {
         Move::Bytes => Came::Moved(stage, at.waits, None),
         Move::Ended => Came::Moved(stage, at.waits, None),
-        Move::Failed => leave_or_cut(desk, stage, seats, net, LeftCause::Fault),
+        Move::Failed => leave_or_cut(desk, stage, seats, net),
         Move::Idle => Came::On(stage, at.waits),
         Move::Waits => Came::On(stage, at.waits.or(Waiting::Client)),
     }
@@ -218,6 +220,8 @@ fn move_to_client<L: Link, S: Seat<Rested<L>>, N: Net<L = L>>(
     ensures keeps { KeepsPlace (desk_now L.state desk.old) (desk_now L.state desk.new) (map S.history seats.old) (map S.history seats.new)
         (N.state net.old) (N.state net.new) }
     ensures routed { (back : Back) → CameRouted back came → CameRouted back result }
+    ensures told { (d0 : DeskNow) (s0 : StageNow) → CameTells d0 s0 (desk_now L.state desk.old) came
+        → CameTells d0 s0 (desk_now L.state desk.new) result }
 {
     let Came::On(stage, waits) = came else {
         return came;
@@ -237,6 +241,8 @@ fn after_server_move<L: Link, S: Seat<Rested<L>>, N: Net<L = L>>(
     requires set { IsSet (desk_now L.state desk.old) (Exchanging (exchange_now exchange)) (map S.history seats.old) }
     ensures goes { Goes (desk_now L.state desk.old) (Exchanging (exchange_now exchange)) (map S.history seats.old) (N.state net.old)
         (desk_now L.state desk.new) result (map S.history seats.new) (N.state net.new) }
+    ensures told { (d : DeskNow) (e : ExchangeNow) → MoveTells call.0 d e (desk_now L.state desk.old) (exchange_now exchange)
+        → CameTells d (Exchanging e) (desk_now L.state desk.new) result }
 {
     let (moved, at) = call;
     match moved {
@@ -284,6 +290,8 @@ fn move_to_server<L: Link, S: Seat<Rested<L>>, N: Net<L = L>>(
     ensures keeps { KeepsPlace (desk_now L.state desk.old) (desk_now L.state desk.new) (map S.history seats.old) (map S.history seats.new)
         (N.state net.old) (N.state net.new) }
     ensures routed { (back : Back) → CameRouted back came → CameRouted back result }
+    ensures told { (d0 : DeskNow) (s0 : StageNow) → CameTells d0 s0 (desk_now L.state desk.old) came
+        → CameTells d0 s0 (desk_now L.state desk.new) result }
 {
     let Came::On(stage, waits) = came else {
         return came;
@@ -308,6 +316,7 @@ fn take_turn<L: Link, S: Seat<Rested<L>>>(
     ensures about { abouts (map S.history seats.new) ≡ abouts (map S.history seats.old) }
     ensures routed { CameRouted back.now came → CameRouted back.now result }
     ensures turn { turn.new < length back.now.servers }
+    ensures told { (d0 d : DeskNow) (s0 : StageNow) → CameTells d0 s0 d came → CameTells d0 s0 d result }
 {
     let Came::On(stage, waits) = came else {
         return came;
@@ -379,6 +388,8 @@ fn do_phase<L: Link, S: Seat<Rested<L>>, N: Net<L = L>>(
     ensures keeps { KeepsPlace (desk_now L.state desk.old) (desk_now L.state desk.new) (map S.history seats.old) (map S.history seats.new)
         (N.state net.old) (N.state net.new) }
     ensures routed { (back : Back) → CameRouted back came → CameRouted back result }
+    ensures told { (d0 : DeskNow) (s0 : StageNow) → CameTells d0 s0 (desk_now L.state desk.old) came
+        → CameTells d0 s0 (desk_now L.state desk.new) result }
 {
     let Came::On(stage, waits) = came else {
         return came;
@@ -419,7 +430,7 @@ fn take_some<L: Link, S: Seat<Rested<L>>, N: Net<L = L>>(
     match read_client(desk, at.now) {
         Move::Bytes => Came::Moved(stage, at.waits, None),
         Move::Ended => Came::Moved(stage, at.waits, None),
-        Move::Failed => leave_or_cut(desk, stage, seats, net, LeftCause::Fault),
+        Move::Failed => leave_or_cut(desk, stage, seats, net),
         Move::Idle => Came::On(stage, at.waits),
         Move::Waits => Came::On(stage, at.waits.or(Waiting::Client)),
     }
@@ -438,6 +449,8 @@ fn move_from_client<L: Link, S: Seat<Rested<L>>, N: Net<L = L>>(
     ensures keeps { KeepsPlace (desk_now L.state desk.old) (desk_now L.state desk.new) (map S.history seats.old) (map S.history seats.new)
         (N.state net.old) (N.state net.new) }
     ensures routed { (back : Back) → CameRouted back came → CameRouted back result }
+    ensures told { (d0 : DeskNow) (s0 : StageNow) → CameTells d0 s0 (desk_now L.state desk.old) came
+        → CameTells d0 s0 (desk_now L.state desk.new) result }
 {
     let Came::On(stage, waits) = came else {
         return came;
@@ -477,6 +490,8 @@ fn move_from_server<L: Link, S: Seat<Rested<L>>, N: Net<L = L>>(
     ensures keeps { KeepsPlace (desk_now L.state desk.old) (desk_now L.state desk.new) (map S.history seats.old) (map S.history seats.new)
         (N.state net.old) (N.state net.new) }
     ensures routed { (back : Back) → CameRouted back came → CameRouted back result }
+    ensures told { (d0 : DeskNow) (s0 : StageNow) → CameTells d0 s0 (desk_now L.state desk.old) came
+        → CameTells d0 s0 (desk_now L.state desk.new) result }
 {
     let Came::On(stage, waits) = came else {
         return came;
@@ -497,6 +512,7 @@ pub(crate) fn let_go<L: Link, S: Seat<Rested<L>>, N: Net<L = L>>(
     requires leaving { IsLeaving (desk_now L.state desk.old) held (map S.history seats.old) }
     ensures gone { IsGone (desk_now L.state desk.new) (map S.history seats.new) }
     ensures client { L.state desk.new.client ≡ record (L.state desk.old.client) { on_loop = None } }
+    ensures desk { desk_now L.state desk.new ≡ with_client (desk_now L.state desk.old) (L.state desk.new.client) }
     ensures keeps { KeepsOver (desk_now L.state desk.old) (desk_now L.state desk.new) (map S.history seats.old) (map S.history seats.new)
         (N.state net.old) (N.state net.new) }
 {
@@ -516,6 +532,8 @@ fn give_left<L: Link, S: Seat<Rested<L>>, N: Net<L = L>>(
     ensures done { IsDone (desk_now L.state desk.new) (stage_now result.stage) (map S.history seats.new) result.waits result.left }
     ensures keeps { KeepsOver (desk_now L.state desk.old) (desk_now L.state desk.new) (map S.history seats.old) (map S.history seats.new)
         (N.state net.old) (N.state net.new) }
+    ensures told { (d0 : DeskNow) (s0 : StageNow) → TellsEnd s0 d0 (desk_now L.state desk.old) ending.served ending.cause
+        → DoneTells d0 s0 (desk_now L.state desk.new) result.served result.left }
 {
     let Ending {
         cause,
@@ -545,6 +563,8 @@ fn conclude<L: Link, S: Seat<Rested<L>>, N: Net<L = L>>(
     ensures keeps { KeepsOver (desk_now L.state desk.old) (desk_now L.state desk.new) (map S.history seats.old) (map S.history seats.new)
         (N.state net.old) (N.state net.new) }
     ensures routed { (back : Back) → CameRouted back came → IsRoutedTo back (stage_now result.stage) }
+    ensures told { (d0 : DeskNow) (s0 : StageNow) → CameTells d0 s0 (desk_now L.state desk.old) came
+        → DoneTells d0 s0 (desk_now L.state desk.new) result.served result.left }
 {
     match came {
         Came::On(stage, waits) => Done {
@@ -586,6 +606,7 @@ pub(crate) fn advance<L: Link, S: Seat<Rested<L>>, N: Net<L = L>>(
         (N.state net.old) (N.state net.new) }
     ensures routed { IsRoutedTo scene.entry.back.now (stage_now result.stage) }
     ensures turn { turn.new < length scene.entry.back.now.servers }
+    ensures told { DoneTells (desk_now L.state desk.old) (stage_now stage) (desk_now L.state desk.new) result.served result.left }
 {
     let came = meet_deadline(desk, stage, seats, net, scene);
     let came = move_to_client(desk, came, seats, net, scene.now);

@@ -73,3 +73,12 @@ returns-clause-keeps g c =
 pub returns-clause-server : goal.returns-clause-server
 returns-clause-server g c =
     rests_to _ _ _ c.args.exchange.busy c.end_answer-busy.result _ _ c.rest-held.result (ap (λ (x : BusyNow). x.server) c.end_answer-busy.ensures.1) c.rest-held.ensures.rests
+
+pub returns-clause-gives : goal.returns-clause-gives
+returns-clause-gives g c =
+    let told = c.tell_passed-served.ensures.gives in
+    record {
+      took_to = told.took_to;
+      gives = record { to = told.gives.to; served = told.gives.served; number = told.gives.number; asked = told.gives.asked; given = told.gives.given };
+      client = told.client;
+    }

@@ -18,5 +18,6 @@ returns g c =
         placed = a.placed news set.numbered (k.around d.worker set.around c.requires.loop_) k.own;
         keeps = record { desk = a.who; about = k.abouts; loop_no = k.loop_ };
         routed = λ back r. a.routed back news (subst (λ (o : Option ServerNo). IfSome o (λ v. Contains (servers_of back) v)) c.requires.chosen r.to_chosen) k.own;
+        told = a.told;
       };
     }

@@ -5,6 +5,7 @@ use Rattle.hx_session.specs.Desks.{desk_now, DeskNow}
 use Rattle.hx_session.specs.Stages.{StageNow}
 use Rattle.hx_session.specs.Standing.{IsPlaced, IsRoutedTo}
 use Rattle.hx_session.proofs.StandingLemmas.{answers_keep, answers_set, gave_none}
+use Rattle.hx_session.proofs.TellLemmas.{answers_none}
 use Rattle.hx_session.proofs.ending.give_up.Goals as goal
 
 pub returns : goal.returns
@@ -23,5 +24,6 @@ returns g c =
             (answers_set d d2 c.args.own.status None news a st.desk gave set.numbered (c.close_busy.ensures.around d.worker set.around) tt);
         keeps = record { desk = answers_keep d d2 c.args.own.status a; about = c.close_busy.ensures.abouts; loop_no = c.close_busy.ensures.loop_ };
         routed = λ back r. subst (λ (s : StageNow). IsRoutedTo back s) (sym c.answer-stage.ensures.stage) (record { to_conn = tt; to_chosen = tt });
+        told = answers_none d d2 c.args.own.status a;
       };
     }

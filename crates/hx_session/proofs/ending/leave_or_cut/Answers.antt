@@ -1,10 +1,11 @@
-use Rattle.std.proofs.Common.{◌≡◌, List, map, sym, subst}
+use Rattle.std.proofs.Common.{◌≡◌, List, map, refl, sym, subst, inl, inr}
 use Rattle.hx_pool.specs.SeatView.{History}
 use Rattle.hx_session.specs.declared.stage.Stage.{Stage}
 use Rattle.hx_session.specs.Desks.{desk_now, DeskNow}
 use Rattle.hx_session.specs.Stages.{stage_now}
 use Rattle.hx_session.specs.Standing.{IsPlaced, Goes}
 use Rattle.hx_session.proofs.StandingLemmas.{goes_ends, leaves_between, place_in, desk_none}
+use Rattle.hx_session.proofs.TellLemmas.{none_same}
 use Rattle.hx_session.proofs.ending.leave_or_cut.Goals as goal
 
 pub returns-in-Reading : goal.returns-in-Reading
@@ -13,7 +14,7 @@ returns-in-Reading g c =
     let seats : List History = map g.S.HasHistory.history c.args.seats.now in
     let net = g.N.Net.state c.args.net.now in
     let p = subst (λ (x : Stage g.row.L.Denot). IsPlaced d (stage_now x) seats) c.in-Reading.is c.requires.placed in
-    record { goes = goes_ends d d _ seats seats net net c.leave.result _ c.leave.ensures (place_in d d seats net (desk_none d)) (leaves_between d c.in-Reading.held seats p.set.stands p.set.numbered p.set.around p.set.own) }
+    record { goes = goes_ends d d _ seats seats net net c.leave.result _ c.leave.ensures (place_in d d seats net (desk_none d)) (leaves_between d c.in-Reading.held seats p.set.stands p.set.numbered p.set.around p.set.own) (none_same d, inr (inl refl)) }
 
 pub returns-in-Choosing : goal.returns-in-Choosing
 returns-in-Choosing g c =
@@ -21,7 +22,7 @@ returns-in-Choosing g c =
     let seats : List History = map g.S.HasHistory.history c.args.seats.now in
     let net = g.N.Net.state c.args.net.now in
     let p = subst (λ (x : Stage g.row.L.Denot). IsPlaced d (stage_now x) seats) c.in-Choosing.is c.requires.placed in
-    record { goes = goes_ends d d _ seats seats net net c.leave-in-Choosing.result _ c.leave-in-Choosing.ensures (place_in d d seats net (desk_none d)) (leaves_between d _ seats p.set.stands.0 p.set.numbered p.set.around p.set.own) }
+    record { goes = goes_ends d d _ seats seats net net c.leave-in-Choosing.result _ c.leave-in-Choosing.ensures (place_in d d seats net (desk_none d)) (leaves_between d _ seats p.set.stands.0 p.set.numbered p.set.around p.set.own) (none_same d, inr (inl refl)) }
 
 pub returns-in-Answering : goal.returns-in-Answering
 returns-in-Answering g c =

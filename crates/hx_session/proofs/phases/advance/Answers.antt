@@ -5,6 +5,7 @@ use Rattle.hx_link.specs.Nets.{NetState}
 use Rattle.hx_pool.specs.SeatView.{History}
 use Rattle.hx_connecting.specs.Choice.{HaveSeats}
 use Rattle.hx_session.specs.Desks.{desk_now, DeskNow}
+use Rattle.hx_session.specs.Stages.{StageNow, stage_now}
 use Rattle.hx_session.specs.Standing.{KeepsPlace}
 use Rattle.hx_session.proofs.StandingLemmas.{place_then}
 use Rattle.hx_session.proofs.PartLemmas.{place_turn, over_then}
@@ -62,6 +63,13 @@ returns-clause-keeps g c =
     let k6 : KeepsPlace d0 d6 s0 s6 n0 n6 = place_then d0 d5 d6 s0 s5 s6 n0 n5 n6 k5 c.move_from_client-came.ensures.keeps in
     let k7 : KeepsPlace d0 d7 s0 s7 n0 n7 = place_then d0 d6 d7 s0 s6 s7 n0 n6 n7 k6 c.move_from_server-came.ensures.keeps in
     over_then d0 d7 d8 s0 s7 s8 n0 n7 n8 k7 c.conclude.ensures.keeps
+
+pub returns-clause-told : goal.returns-clause-told
+returns-clause-told g c =
+    let d : DeskNow = desk_now g.L.Link.state c.args.desk.now in
+    let s : StageNow = stage_now c.args.stage in
+    c.conclude.ensures.told d s (c.move_from_server-came.ensures.told d s (c.move_from_client-came.ensures.told d s (c.do_phase-came.ensures.told d s
+    (c.take_turn-came.ensures.told d (desk_now g.L.Link.state c.move_to_server-came.new.desk) s (c.move_to_server-came.ensures.told d s (c.move_to_client-came.ensures.told d s c.meet_deadline-came.ensures.goes.told))))))
 
 pub returns-clause-routed : goal.returns-clause-routed
 returns-clause-routed g c =

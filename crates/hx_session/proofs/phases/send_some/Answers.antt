@@ -29,4 +29,4 @@ returns g c =
     let net : NetState = g.N.Net.state c.args.net.now in
     let net2 : NetState = g.N.Net.state c.after_server_move.new.net in
     let r = c.send-sent.ensures in
-    record { goes = goes_from_exchange d d2 d3 e e2 olds news net net2 c.after_server_move.result r.keeps r.conn c.after_server_move.ensures.goes }
+    record { goes = goes_from_exchange d d2 d3 e e2 olds news net net2 c.after_server_move.result r.keeps r.conn c.after_server_move.ensures.goes (c.after_server_move.ensures.told d e r.told) }

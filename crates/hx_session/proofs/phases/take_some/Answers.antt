@@ -3,6 +3,8 @@ use Rattle.hx_pool.specs.SeatView.{History}
 use Rattle.hx_session.specs.Desks.{desk_now, DeskNow}
 use Rattle.hx_session.specs.Stages.{stage_now}
 use Rattle.hx_session.proofs.StandingLemmas.{place_in}
+use Rattle.hx_session.specs.declared.moves.Move.{Move}
+use Rattle.hx_session.proofs.TellLemmas.{DeskTells, reads_told}
 use Rattle.hx_session.proofs.PartLemmas.{took_placed, goes_from_desk}
 use Rattle.hx_session.proofs.ReadLemmas.{reads_keep}
 use Rattle.hx_session.proofs.phases.take_some.Goals as goal
@@ -19,6 +21,7 @@ returns-in-Bytes g c =
         placed = took_placed d d2 (stage_now c.args.stage) c.args.at.now.0 m seats c.read_client.ensures.desk c.read_client.ensures.reads c.requires.wants c.requires.placed;
         keeps = place_in d d2 seats net (reads_keep d d2 c.args.at.now.0 m c.read_client.ensures.reads).desk;
         routed = λ back r. r;
+        told = subst (λ (x : Move). DeskTells x d (stage_now c.args.stage) d2) c.in-Bytes.is (reads_told d d2 (stage_now c.args.stage) c.args.at.now.0 c.read_client.result c.read_client.ensures.reads);
       };
     }
 
@@ -34,6 +37,7 @@ returns-in-Ended g c =
         placed = took_placed d d2 (stage_now c.args.stage) c.args.at.now.0 m seats c.read_client.ensures.desk c.read_client.ensures.reads c.requires.wants c.requires.placed;
         keeps = place_in d d2 seats net (reads_keep d d2 c.args.at.now.0 m c.read_client.ensures.reads).desk;
         routed = λ back r. r;
+        told = subst (λ (x : Move). DeskTells x d (stage_now c.args.stage) d2) c.in-Ended.is (reads_told d d2 (stage_now c.args.stage) c.args.at.now.0 c.read_client.result c.read_client.ensures.reads);
       };
     }
 
@@ -49,6 +53,7 @@ returns-in-Idle g c =
         placed = took_placed d d2 (stage_now c.args.stage) c.args.at.now.0 m seats c.read_client.ensures.desk c.read_client.ensures.reads c.requires.wants c.requires.placed;
         keeps = place_in d d2 seats net (reads_keep d d2 c.args.at.now.0 m c.read_client.ensures.reads).desk;
         routed = λ back r. r;
+        told = subst (λ (x : Move). DeskTells x d (stage_now c.args.stage) d2) c.in-Idle.is (reads_told d d2 (stage_now c.args.stage) c.args.at.now.0 c.read_client.result c.read_client.ensures.reads);
       };
     }
 
@@ -64,6 +69,7 @@ returns-in-Waits g c =
         placed = took_placed d d2 (stage_now c.args.stage) c.args.at.now.0 m seats c.read_client.ensures.desk c.read_client.ensures.reads c.requires.wants c.requires.placed;
         keeps = place_in d d2 seats net (reads_keep d d2 c.args.at.now.0 m c.read_client.ensures.reads).desk;
         routed = λ back r. r;
+        told = subst (λ (x : Move). DeskTells x d (stage_now c.args.stage) d2) c.in-Waits.is (reads_told d d2 (stage_now c.args.stage) c.args.at.now.0 c.read_client.result c.read_client.ensures.reads);
       };
     }
 
@@ -84,5 +90,6 @@ returns-in-Failed g c =
     let news : List History = map f c.leave_or_cut.new.seats in
     record {
       goes = goes_from_desk d d2 d3 (stage_now c.args.stage) olds news (g.N.Net.state c.args.net.now) (g.N.Net.state c.leave_or_cut.new.net) c.leave_or_cut.result
-          (reads_keep d d2 c.args.at.now.0 c.read_client.result c.read_client.ensures.reads).desk c.leave_or_cut.ensures.goes;
+          (reads_keep d d2 c.args.at.now.0 c.read_client.result c.read_client.ensures.reads).desk c.leave_or_cut.ensures.goes
+          (subst (λ (x : Move). DeskTells x d (stage_now c.args.stage) d2) c.in-Failed.is (reads_told d d2 (stage_now c.args.stage) c.args.at.now.0 c.read_client.result c.read_client.ensures.reads));
     }

@@ -1,7 +1,9 @@
 use Rattle.std.proofs.Common.{◌≡◌, List, map, subst}
 use Rattle.hx_pool.specs.SeatView.{History}
 use Rattle.hx_session.specs.declared.stage.Came.{Came}
-use Rattle.hx_session.specs.Stages.{stage_now}
+use Rattle.hx_session.specs.Stages.{StageNow, stage_now}
+use Rattle.hx_session.specs.Telling.{CameTells}
+use Rattle.hx_session.proofs.TellLemmas.{chooses_same, chosen_still}
 use Rattle.hx_session.specs.Standing.{CamePlaced, CameRouted}
 use Rattle.hx_session.proofs.GateLemmas.{in_placed, in_abouts, in_routed, in_turn_below}
 use Rattle.hx_session.proofs.phases.take_turn.Goals as goal
@@ -30,3 +32,11 @@ returns-clause-turn g c =
     let f = g.S.HasHistory.history in
     in_turn_below c.args.back.now.servers c.args.turn.now c.choose_server.new.turn (map f c.args.seats.now) (map f c.choose_server.new.seats) (stage_now c.in-On.stage) (stage_now c.choose_server.result) c.choose_server.ensures.chooses
     c.requires.turn
+
+pub returns-clause-told : goal.returns-clause-told
+returns-clause-told g c = λ d0 d s0 t.
+    let f = g.S.HasHistory.history in
+    let s : StageNow = stage_now c.in-On.stage in
+    let s2 : StageNow = stage_now c.choose_server.result in
+    chosen_still d0 d s0 s s2 (subst (λ (x : Came g.row.L.Denot). CameTells d0 s0 d x) c.in-On.is t)
+    (chooses_same c.args.back.now.servers c.args.turn.now c.choose_server.new.turn (map f c.args.seats.now) (map f c.choose_server.new.seats) s s2 c.choose_server.ensures.chooses)

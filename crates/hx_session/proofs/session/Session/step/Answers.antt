@@ -16,6 +16,9 @@ use Rattle.hx_session.specs.Stages.{StageNow, stage_now}
 use Rattle.hx_session.specs.Standing.{IsPlaced, IsRoutedTo}
 use Rattle.hx_session.proofs.ExitLemmas.{done_going, turns_set}
 use Rattle.hx_session.proofs.StepLemmas.{Enters, enters, goes_on_here, serves_on, turn_here}
+use Rattle.hx_session.specs.Seen.{session_seen}
+use Rattle.hx_session.specs.Telling.{DoneTells, StepTold}
+use Rattle.hx_session.proofs.ToldLemmas.{sound_one, step_told}
 use Rattle.hx_session.proofs.session.Session.step.Goals as goal
 
 pub advance-stage-requires : goal.advance-stage-requires
@@ -69,3 +72,17 @@ returns-clause-seats g c =
     let f = g.S.HasHistory.history in
     let keeps = c.advance-stage.ensures.keeps in
     serves_on c.args.self.now.worker c.args.self.now.worker (map f c.args.seats.now) (map f c.advance-stage.new.seats) (all_servers c.args.config.now.backs) refl keeps.about c.requires.seats
+
+pub returns-clause-tells : goal.returns-clause-tells
+returns-clause-tells g c = λ going.
+    let f = g.S.HasHistory.history in
+    let d : DeskNow = desk_now g.L.Link.state c.self.inside.desk in
+    let d2 : DeskNow = desk_now g.L.Link.state c.advance-stage.new.desk in
+    let s : StageNow = stage_now c.self.inside.stage in
+    let news : List History = map f c.advance-stage.new.seats in
+    let front = c.self.inside.front in
+    let done = c.advance-stage.result in
+    let some = sound_one d s c.self.invariant (ap (λ (x : SessionNow). x.over) c.self.view_is ∙ going) in
+    let told = subst (λ (x : Stage g.row.L.Denot). DoneTells d (stage_now x) d2 done.served done.left) c.replace-stage.ensures.value c.advance-stage.ensures.told in
+    subst (λ (x : SessionNow). StepTold x (session_seen front d2 (stage_now done.stage)) done.left done.served) c.self.view_is
+    (step_told front d d2 s (stage_now done.stage) news done.waits done.served done.left some told c.advance-stage.ensures.done)
