@@ -90,10 +90,10 @@ add_each t n first x i (h ∷ olds) (k ∷ news) e =
     let m = e.0.marked in
     (es ∷ rest.0, (e.0.makes.makes, record { marks = m.marks; own = m.own; balances = subst (λ (l : List Note). Balances 0 0 l) (append-nil es) (m.keeps 0 [] (λ c. refl)) }, rest.1))
 
-here : (t : ThreadNo) (n : SessionNo) (first : Bool) (x : Touch) → touch_marks t n first x ≡ marks_at t n first (Some x) x.server.0
+pub here : (t : ThreadNo) (n : SessionNo) (first : Bool) (x : Touch) → touch_marks t n first x ≡ marks_at t n first (Some x) x.server.0
 here t n first x = sym (ap (λ (b : Bool). if b then touch_marks t n first x else []) (eq-eqb x.server.0 x.server.0 refl))
 
-not_here : (t : ThreadNo) (n : SessionNo) (first : Bool) (x : Touch) (k : ℕ) → (k ≡ x.server.0 → ⊥) → marks_at t n first (Some x) k ≡ []
+pub not_here : (t : ThreadNo) (n : SessionNo) (first : Bool) (x : Touch) (k : ℕ) → (k ≡ x.server.0 → ⊥) → marks_at t n first (Some x) k ≡ []
 not_here t n first x k ne = by_test (eqb x.server.0 k) refl
   where
     by_test : (b : Bool) → eqb x.server.0 k ≡ b → (if b then touch_marks t n first x else []) ≡ []

@@ -125,7 +125,7 @@ open_seen b c n id opens =
     let cut = split_own b.about.thread m.seen.0 x [] (gained b c (x ∷ []) m) in
     (b.seen ++ cut.0, cut.1, m.seen.1 ∙ ap (λ (l : List Note). b.seen ++ l) cut.2 ∙ sym (append_assoc b.seen cut.0 (x ∷ cut.1)))
 
-lift : (may : ℕ → Bool) (t : ThreadNo) (es fs : List Note) (at : PlaceNo) → ((x : Found) → Among (λ e. e ≡ Look t at x) es → Among (λ e. e ≡ Look t at x) fs) → IsUnavailableTo may t es at → IsUnavailableTo may t fs at
+pub lift : (may : ℕ → Bool) (t : ThreadNo) (es fs : List Note) (at : PlaceNo) → ((x : Found) → Among (λ e. e ≡ Look t at x) es → Among (λ e. e ≡ Look t at x) fs) → IsUnavailableTo may t es at → IsUnavailableTo may t fs at
 lift may t es fs at into (inl (found, never, a)) = inl (found, never, into found a)
 lift may t es fs at into (inr (f, g, apart, a, b)) = inr (f, g, apart, into (Resting f) a, into (Resting g) b)
 

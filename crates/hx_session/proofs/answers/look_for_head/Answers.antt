@@ -5,6 +5,8 @@ use Rattle.hx_pool.specs.SeatView.{History}
 use Rattle.hx_session.specs.Desks.{desk_now, DeskNow}
 use Rattle.hx_session.specs.Exchanged.{exchange_now, ExchangeNow}
 use Rattle.hx_session.specs.Standing.{KeepsAsk}
+use Rattle.hx_connecting.specs.Journals.{room_of}
+use Rattle.hx_connecting.proofs.RoomLemmas.{rooms_none}
 use Rattle.hx_session.proofs.PartLemmas.{went_on}
 use Rattle.hx_session.proofs.answers.look_for_head.Goals as goal
 
@@ -18,7 +20,10 @@ returns-in-Interim g c =
     let net : NetState = g.N.Net.state c.args.net.now in
     let s = c.spell_interim-spelled.ensures in
     let keeps : KeepsAsk d d2 = subst (λ (p : PipeNow). KeepsAsk (record d { down = p }) d2) c.look_down.ensures.same s.keeps in
-    record { goes = went_on d d2 e e2 seats net c.goes_on.result c.requires.placed keeps s.conn s.carried s.good (c.goes_on.ensures.placed d2 seats) c.goes_on.ensures.routed }
+    record {
+      goes = went_on d d2 e e2 seats net c.goes_on.result c.requires.placed keeps s.conn s.carried s.good (c.goes_on.ensures.placed d2 seats) c.goes_on.ensures.routed;
+      rooms = rooms_none g.S.HasHistory.history (room_of g.S.HasHistory.kept_from g.S.HasHistory.spare) c.args.seats.now;
+    }
 
 pub returns-in-Final : goal.returns-in-Final
 returns-in-Final g c =
@@ -30,4 +35,7 @@ returns-in-Final g c =
     let net : NetState = g.N.Net.state c.args.net.now in
     let s = c.spell_final-spelled.ensures in
     let keeps : KeepsAsk d d2 = subst (λ (p : PipeNow). KeepsAsk (record d { down = p }) d2) c.look_down.ensures.same s.keeps in
-    record { goes = went_on d d2 e e2 seats net c.goes_on-in-Final.result c.requires.placed keeps s.conn s.carried s.good (c.goes_on-in-Final.ensures.placed d2 seats) c.goes_on-in-Final.ensures.routed }
+    record {
+      goes = went_on d d2 e e2 seats net c.goes_on-in-Final.result c.requires.placed keeps s.conn s.carried s.good (c.goes_on-in-Final.ensures.placed d2 seats) c.goes_on-in-Final.ensures.routed;
+      rooms = rooms_none g.S.HasHistory.history (room_of g.S.HasHistory.kept_from g.S.HasHistory.spare) c.args.seats.now;
+    }

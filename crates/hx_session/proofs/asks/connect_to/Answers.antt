@@ -17,6 +17,8 @@ returns g c =
       comes = record {
         placed = a.placed news set.numbered (k.around d.worker set.around c.requires.loop_) k.own;
         keeps = record { desk = a.who; about = k.abouts; loop_no = k.loop_ };
+        touches = inr (connects_touches d.worker d.session (first_of d) c.in_to.server olds news _ _ _ _ _ _ set.around connects);
         routed = λ back r. a.routed back news (subst (λ (o : Option ServerNo). IfSome o (λ v. Contains (servers_of back) v)) c.requires.chosen r.to_chosen) k.own;
       };
+      rooms = k.rooms;
     }

@@ -1,0 +1,73 @@
+-- How the connection of a session goes through calls of it, and what they do with the net.
+use Rattle.std.specs.Prelude.{◌≡◌, ◌⊎◌, Bool, List, [], Option, Some, None, slice_get}
+use Rattle.hx_base.specs.declared.numbers.ThreadNo.{ThreadNo}
+use Rattle.hx_base.specs.declared.numbers.SessionNo.{SessionNo}
+use Rattle.hx_conn.specs.Conns.{RestedNow, BusyNow}
+use Rattle.hx_conn.specs.WhatTold.{what_of_link}
+use Rattle.hx_link.specs.Nets.{NetState}
+use Rattle.hx_pool.specs.declared.entries.Note.{Note}
+use Rattle.hx_pool.specs.SeatView.{History}
+use Rattle.hx_record.specs.declared.served.Served.{Served}
+use Rattle.hx_connecting.specs.Adding.{AddsFor}
+use Rattle.hx_connecting.specs.Exchanges.{HadGoes, IsSameExchange, ExchangeGoes}
+use Rattle.hx_connecting.specs.Links.{IsSameLink, GainsAll, CourseStays, LinkGoes}
+use Rattle.hx_connecting.specs.Sessions.{SessionNow, Holding, Resting, Exchanging, conn_link, conn_server, conn_id}
+use Rattle.hx_connecting.specs.Touches.{Touch}
+
+-- no link is dialled or buried
+pub record NetStays (old new : NetState) : Type 0 where
+  pub course : CourseStays old new
+  pub dials : GainsAll [] old.dials new.dials
+  pub buries : GainsAll [] old.buried new.buried
+
+-- the session has the same connection as before
+pub record ConnStays (c k : Holding) (served : Option Served) : Type 0 where
+  pub server : conn_server k ≡ conn_server c
+  pub id : conn_id k ≡ conn_id c
+  pub link : IsSameLink (what_of_link (conn_link c)) (what_of_link (conn_link k))
+  pub goes : HadGoes c k served
+
+-- or it had none and has none
+abbrev pub StaysWith : Option Holding → Option Holding → Option Served → Type 0
+StaysWith None c' served = c' ≡ None
+StaysWith (Some c) c' served = (k : Holding) × (c' ≡ Some k) × ConnStays c k served
+
+-- an exchange goes on
+pub record ExchangeStays (a b : BusyNow) : Type 0 where
+  pub server : b.server ≡ a.server
+  pub id : b.id ≡ a.id
+  pub link : IsSameLink (what_of_link a.link) (what_of_link b.link)
+  pub same : IsSameExchange a b
+
+-- a connection that rests is as it was, and one in an exchange goes on in it
+abbrev pub StaysOn : Option Holding → Option Holding → Type 0
+StaysOn None c' = c' ≡ None
+StaysOn (Some (Resting r)) c' = c' ≡ Some (Resting r)
+StaysOn (Some (Exchanging a)) c' = (b : BusyNow) × (c' ≡ Some (Exchanging b)) × ExchangeStays a b
+
+-- the link of the touched connection goes its way, and its exchange, for each session of that number which had the one connection
+-- and has the other
+abbrev pub WayOf : ThreadNo → SessionNo → Option Holding → Option Holding → History → List Note → NetState → NetState → Touch → Option Served → Type 0
+WayOf t n c c' h es old new x served =
+    (s s' : SessionNow) → s.conn ≡ c → s'.conn ≡ c' → s'.worker ≡ t → s'.number ≡ n
+    → (g : LinkGoes s s' h es old new x) × ExchangeGoes s s' x x.went g.before served
+
+pub record WayAt (t : ThreadNo) (n : SessionNo) (c c' : Option Holding) (news : List History) (added : List (List Note))
+    (old new : NetState) (x : Touch) (served : Option Served) : Type 0 where
+  pub history : History
+  pub es : List Note
+  pub seat : slice_get news x.server.0 ≡ Some history
+  pub entries : slice_get added x.server.0 ≡ Some es
+  pub way : WayOf t n c c' history es old new x served
+
+-- where no connection was touched, the session has what it had
+abbrev pub WayFor : ThreadNo → SessionNo → Option Holding → Option Holding → List History → List (List Note) → NetState → NetState → Option Touch → Option Served → Type 0
+WayFor t n c c' news added old new None served = StaysWith c c' served × NetStays old new
+WayFor t n c c' news added old new (Some x) served = WayAt t n c c' news added old new x served
+
+-- calls that touched that connection, or none: their entries, and the way of the session's connection
+pub record Touched (t : ThreadNo) (n : SessionNo) (first : Bool) (c c' : Option Holding) (olds news : List History) (old new : NetState)
+    (x : Option Touch) (served : Option Served) : Type 0 where
+  pub added : List (List Note)
+  pub adds : AddsFor t n first x olds news added
+  pub way : WayFor t n c c' news added old new x served
