@@ -26,7 +26,7 @@ use Rattle.hx_session.specs.Desks.{DeskNow, IsDesk}
 use Rattle.hx_session.specs.Ending.{HasOwn, AnswersOwn, GaveNothing}
 use Rattle.hx_session.specs.Exchanged.{ExchangeNow}
 use Rattle.hx_session.specs.Fits.{GoesTo}
-use Rattle.hx_session.specs.Parting.{PartTouches}
+use Rattle.hx_session.specs.Parting.{PartTouches, came_conn}
 use Rattle.hx_connecting.specs.Touched.{AllStand}
 use Rattle.hx_connecting.proofs.AddingLemmas.{holds_stand}
 use Rattle.hx_session.proofs.PartingLemmas.{part_from, parted, parted_from, parted_none, counts_same, stage_part}
@@ -93,9 +93,15 @@ pub went_on : {X : Type 0} (d d' : DeskNow) (e e' : ExchangeNow) (seats : List H
 went_on d d' e e' seats net c p k same carried failed placed routed = record {
   placed = placed (placed_on d d' e e' seats p k same carried failed);
   keeps = place_in d d' seats net k.desk;
-  touches = inr (parted_none d d' (Exchanging e) seats seats net net c (holds_stand d.worker d.session _ 0 seats p.set.around.holds) refl (counts_same d d' c k.number));
+  touches = inr (parted_none d d' (Exchanging e) seats seats net net c (holds_stand d.worker d.session (conn_seen (Exchanging e)) 0 seats p.set.around.holds) refl (counts_same d d' c k.number));
   routed = λ back r. routed back (conn_routed back e e' same r);
 }
+
+-- an exchange that is as it was
+pub still_on : {X : Type 0} (d : DeskNow) (e : ExchangeNow) (seats : List History) (net : NetState) (c : Came X) → IsPlaced d (Exchanging e) seats → came_conn c ≡ conn_seen (Exchanging e)
+    → (IsPlaced d (Exchanging e) seats → CamePlaced d c seats) → ((back : Back) → IsRoutedTo back (Exchanging e) → CameRouted back c) → Goes d (Exchanging e) seats net d c seats net
+still_on d e seats net c p conn placed routed =
+    record { placed = placed p; keeps = place_in d d seats net (desk_none d); touches = inl (refl, refl, conn, counts_same d d c refl); routed = routed }
 
 -- an own answer is decided outside of an exchange
 pub goes_answering : {X : Type 0} (d d' : DeskNow) (s : StageNow) (status : ℕ) (held : Option RestedNow) (seats : List History) (net : NetState) (stage : Stage X) (w : Waiting) (served : Option Served)

@@ -16,12 +16,13 @@ ghost use Rattle.hx_session.specs.Carried.{IsCarried};
 ghost use Rattle.hx_session.specs.Over.{IsOver, IsTold};
 ghost use Rattle.hx_session.specs.Finishing.{MayDo, DoesAtEnd, IsAnswerGiven, WasOver, EndsAnswer, RestsTo};
 ghost use Rattle.hx_session.specs.Passing.{PassesBody, BeginsBody};
+ghost use Rattle.hx_session.specs.Seen.{conn_seen};
 ghost use Rattle.hx_session.specs.Stages.{Reading, Exchanging};
 ghost use Rattle.hx_connecting.specs.Adding.{RestTouches};
 ghost use Rattle.hx_connecting.specs.Journals.{room_of};
 ghost use Rattle.hx_connecting.specs.Rooms.{RoomsStay};
 ghost use Rattle.hx_connecting.specs.Touches.{Touch};
-ghost use Rattle.hx_session.specs.Parting.{MayTouch, CountsOn, first_of};
+ghost use Rattle.hx_session.specs.Parting.{MayTouch, CountsOn, came_conn, first_of};
 ghost use Rattle.hx_session.specs.Standing.{IsPlaced, CamePlaced, IsRoutedTo, CameRouted, KeepsDesk, KeepsAsk, IsSameConn, KeepsPlace, Goes};
 
 use crate::cuts::look_down;
@@ -309,6 +310,7 @@ fn spell_final<L: Link>(
 /// The exchange goes on.
 fn goes_on<L: Link>(exchange: Exchange<L>, waits: Waiting, moved: bool) -> Came<L>
     ensures placed { (d : DeskNow) (seats : List History) → IsPlaced d (Exchanging (exchange_now exchange)) seats → CamePlaced d result seats }
+    ensures conn { came_conn result ≡ conn_seen (Exchanging (exchange_now exchange)) }
     ensures routed { (back : Back) → IsRoutedTo back (Exchanging (exchange_now exchange)) → CameRouted back result }
 {
     let stage = Stage::Exchanging(exchange);

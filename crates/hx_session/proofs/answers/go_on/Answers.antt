@@ -6,6 +6,7 @@ use Rattle.hx_session.specs.Exchanged.{exchange_now, ExchangeNow}
 use Rattle.hx_connecting.specs.Journals.{room_of}
 use Rattle.hx_connecting.proofs.RoomLemmas.{rooms_none}
 use Rattle.hx_session.proofs.PartLemmas.{went_on}
+use Rattle.hx_session.proofs.PartLemmas.{still_on}
 use Rattle.hx_session.proofs.answers.go_on.Goals as goal
 
 pub returns-in-PassAsk : goal.returns-in-PassAsk
@@ -35,3 +36,15 @@ returns-in-PassAnswer g c =
       goes = went_on d d2 e e2 seats net c.goes_on-in-PassAnswer.result c.requires.placed p.keeps p.conn p.carried p.good (c.goes_on-in-PassAnswer.ensures.placed d2 seats) c.goes_on-in-PassAnswer.ensures.routed;
       rooms = rooms_none g.S.HasHistory.history (room_of g.S.HasHistory.kept_from g.S.HasHistory.spare) c.args.seats.now;
     }
+
+pub returns-in-Nothing-clause-rooms : goal.returns-in-Nothing-clause-rooms
+returns-in-Nothing-clause-rooms g c = rooms_none g.S.HasHistory.history (room_of g.S.HasHistory.kept_from g.S.HasHistory.spare) c.args.seats.now
+
+pub returns-in-Nothing-clause-goes : goal.returns-in-Nothing-clause-goes
+returns-in-Nothing-clause-goes g c =
+    let d : DeskNow = desk_now g.L.Link.state c.args.desk.now in
+    let e : ExchangeNow = exchange_now c.args.exchange in
+    let seats : List History = map g.S.HasHistory.history c.args.seats.now in
+    let net : NetState = g.N.Net.state c.args.net.now in
+    let k = c.goes_on-in-Nothing.ensures in
+    still_on d e seats net c.goes_on-in-Nothing.result c.requires.placed k.conn (k.placed d seats) k.routed

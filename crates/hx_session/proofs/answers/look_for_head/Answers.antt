@@ -1,13 +1,15 @@
-use Rattle.std.proofs.Common.{◌≡◌, List, map, subst}
+use Rattle.std.proofs.Common.{◌≡◌, List, map, sym, subst}
 use Rattle.hx_link.specs.Nets.{NetState}
 use Rattle.hx_link.specs.Pipes.{PipeNow}
 use Rattle.hx_pool.specs.SeatView.{History}
 use Rattle.hx_session.specs.Desks.{desk_now, DeskNow}
 use Rattle.hx_session.specs.Exchanged.{exchange_now, ExchangeNow}
-use Rattle.hx_session.specs.Standing.{KeepsAsk}
+use Rattle.hx_session.specs.Stages.{Exchanging}
+use Rattle.hx_session.specs.Standing.{Goes, KeepsAsk}
 use Rattle.hx_connecting.specs.Journals.{room_of}
 use Rattle.hx_connecting.proofs.RoomLemmas.{rooms_none}
 use Rattle.hx_session.proofs.PartLemmas.{went_on}
+use Rattle.hx_session.proofs.PartLemmas.{still_on}
 use Rattle.hx_session.proofs.answers.look_for_head.Goals as goal
 
 pub returns-in-Interim : goal.returns-in-Interim
@@ -39,3 +41,16 @@ returns-in-Final g c =
       goes = went_on d d2 e e2 seats net c.goes_on-in-Final.result c.requires.placed keeps s.conn s.carried s.good (c.goes_on-in-Final.ensures.placed d2 seats) c.goes_on-in-Final.ensures.routed;
       rooms = rooms_none g.S.HasHistory.history (room_of g.S.HasHistory.kept_from g.S.HasHistory.spare) c.args.seats.now;
     }
+
+pub returns-else-exchange-clause-rooms : goal.returns-else-exchange-clause-rooms
+returns-else-exchange-clause-rooms g c = rooms_none g.S.HasHistory.history (room_of g.S.HasHistory.kept_from g.S.HasHistory.spare) c.args.seats.now
+
+pub returns-else-exchange-clause-goes : goal.returns-else-exchange-clause-goes
+returns-else-exchange-clause-goes g c =
+    let d : DeskNow = desk_now g.L.Link.state c.args.desk.now in
+    let e : ExchangeNow = exchange_now c.args.exchange in
+    let seats : List History = map g.S.HasHistory.history c.args.seats.now in
+    let net : NetState = g.N.Net.state c.args.net.now in
+    let k = c.goes_on-else-exchange.ensures in
+    let came = c.goes_on-else-exchange.result in
+    subst (λ (p : PipeNow). Goes d (Exchanging e) seats net (record d { down = p }) came seats net) (sym c.look_down.ensures.same) (still_on d e seats net came c.requires.placed k.conn (k.placed d seats) k.routed)

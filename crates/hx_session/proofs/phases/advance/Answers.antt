@@ -14,6 +14,7 @@ use Rattle.hx_connecting.specs.Rooms.{RoomsStay}
 use Rattle.hx_connecting.proofs.AddingLemmas.{holds_stand}
 use Rattle.hx_connecting.proofs.RoomLemmas.{rooms_both}
 use Rattle.hx_session.specs.Stages.{StageNow, stage_now}
+use Rattle.hx_session.specs.Seen.{conn_seen}
 use Rattle.hx_session.proofs.PartingLemmas.{parted}
 use Rattle.hx_session.proofs.phases.advance.Goals as goal
 
@@ -120,7 +121,7 @@ returns-clause-touches g c =
     let m6 = k6.session ∙ m5 in
     let m7 = k7.session ∙ m6 in
     let p1 = parted d0 d1 s hs (map f c.meet_deadline-came.new.seats) n0 (n c.meet_deadline-came.new.net) c.meet_deadline-came.result
-    (holds_stand d0.worker d0.session _ 0 hs c.requires.placed.set.around.holds) c.meet_deadline-came.ensures.goes.touches in
+    (holds_stand d0.worker d0.session (conn_seen s) 0 hs c.requires.placed.set.around.holds) c.meet_deadline-came.ensures.goes.touches in
     let p2 = c.move_to_client-came.ensures.touches d0 s hs n0 k1.worker k1.session p1 in
     let p3 = c.move_to_server-came.ensures.touches d0 s hs n0 w2 m2 p2 in
     let p4 = c.take_turn-came.ensures.touches d3 (n c.move_to_server-came.new.net) d0 s hs n0 w3 m3 p3 in

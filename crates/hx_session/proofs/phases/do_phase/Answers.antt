@@ -5,6 +5,8 @@ use Rattle.hx_session.specs.declared.stage.Came.{Came}
 use Rattle.hx_session.specs.Desks.{desk_now, DeskNow}
 use Rattle.hx_session.specs.Parting.{Parted}
 use Rattle.hx_session.proofs.PartingLemmas.{parts_then}
+use Rattle.hx_connecting.specs.Journals.{room_of}
+use Rattle.hx_connecting.proofs.RoomLemmas.{rooms_none}
 use Rattle.hx_session.proofs.phases.do_phase.Goals as goal
 
 pub returns-clause-touches : goal.returns-clause-touches
@@ -18,3 +20,6 @@ returns-clause-touches g c = λ d0 s0 hs net0 t n p.
     let net2 : NetState = g.N.Net.state c.do_stage.new.net in
     let on = subst (λ (x : Came g.row.L.Denot). Parted d0 s0 hs net0 d x olds net) c.in-On.is p in
     parts_then d0 d d2 s0 c.in-On.stage c.in-On.waits hs olds news net0 net net2 c.do_stage.result t n on c.do_stage.ensures.goes.touches
+
+pub returns-in_default-clause-rooms : goal.returns-in_default-clause-rooms
+returns-in_default-clause-rooms g c = rooms_none g.S.HasHistory.history (room_of g.S.HasHistory.kept_from g.S.HasHistory.spare) c.args.seats.now

@@ -8,6 +8,7 @@ use Rattle.hx_session.specs.Stages.{stage_now}
 use Rattle.hx_session.specs.Standing.{IsPlaced, Goes}
 use Rattle.std.proofs.Common.{None}
 use Rattle.hx_link.specs.Nets.{NetState}
+use Rattle.hx_session.specs.declared.stage.Came.TheVariants.{Moved}
 use Rattle.hx_session.proofs.PartLemmas.{goes_to}
 use Rattle.hx_session.proofs.phases.do_stage.Goals as goal
 
@@ -46,5 +47,5 @@ returns-in-Choosing-clause-goes g c =
     let news : List History = map f c.go_out-stage.new.seats in
     let net : NetState = g.N.Net.state c.args.net.now in
     let net2 : NetState = g.N.Net.state c.go_out-stage.new.net in
-    subst (λ (x : Stage g.row.L.Denot). Goes d (stage_now x) olds net d2 _ news net2) (sym c.in-Choosing.is)
+    subst (λ (x : Stage g.row.L.Denot). Goes d (stage_now x) olds net d2 (Moved c.go_out-stage.result c.args.scene.waits None) news net2) (sym c.in-Choosing.is)
     (goes_to d d2 _ olds news net net2 c.go_out-stage.result c.args.scene.waits None c.go_out-stage.ensures.comes)

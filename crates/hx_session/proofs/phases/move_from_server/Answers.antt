@@ -11,6 +11,8 @@ use Rattle.hx_session.specs.Parting.{Parted}
 use Rattle.hx_session.proofs.PartingLemmas.{parts_then}
 use Rattle.hx_session.specs.declared.stage.Stage.TheVariants as is
 use Rattle.hx_session.specs.declared.stage.Came.TheVariants.{On}
+use Rattle.hx_connecting.specs.Journals.{room_of}
+use Rattle.hx_connecting.proofs.RoomLemmas.{rooms_none}
 use Rattle.hx_session.proofs.phases.move_from_server.Goals as goal
 
 pub returns-clause-routed : goal.returns-clause-routed
@@ -30,3 +32,9 @@ returns-clause-touches g c = λ d0 s0 hs net0 t n p.
     let on = subst (λ (x : Came g.row.L.Denot). Parted d0 s0 hs net0 d x olds net) c.in-On.is p in
     let there = subst (λ (x : Stage g.row.L.Denot). Parted d0 s0 hs net0 d (On x c.in-On.waits) olds net) c.in-Exchanging.is on in
     parts_then d0 d d2 s0 (is.Exchanging c.in-Exchanging.exchange) c.in-On.waits hs olds news net0 net net2 c.read_some.result t n there c.read_some.ensures.goes.touches
+
+pub returns-in_default-clause-rooms : goal.returns-in_default-clause-rooms
+returns-in_default-clause-rooms g c = rooms_none g.S.HasHistory.history (room_of g.S.HasHistory.kept_from g.S.HasHistory.spare) c.args.seats.now
+
+pub returns-in_default-stage-clause-rooms : goal.returns-in_default-stage-clause-rooms
+returns-in_default-stage-clause-rooms g c = rooms_none g.S.HasHistory.history (room_of g.S.HasHistory.kept_from g.S.HasHistory.spare) c.args.seats.now

@@ -2,6 +2,8 @@ use Rattle.std.proofs.Common.{◌≡◌, List, map}
 use Rattle.hx_link.specs.Nets.{NetState}
 use Rattle.hx_pool.specs.SeatView.{History}
 use Rattle.hx_connecting.proofs.AddingLemmas.{holds_stand}
+use Rattle.hx_session.specs.Seen.{conn_seen}
+use Rattle.hx_session.specs.Stages.{Exchanging}
 use Rattle.hx_session.specs.Desks.{desk_now, DeskNow}
 use Rattle.hx_session.specs.Exchanged.{exchange_now, ExchangeNow}
 use Rattle.hx_session.proofs.PartLemmas.{goes_from_exchange}
@@ -31,6 +33,6 @@ returns g c =
     let net2 : NetState = g.N.Net.state c.after_server_move.new.net in
     let r = c.read_server-read.ensures in
     record {
-      goes = goes_from_exchange d d2 d3 e e2 olds news net net2 c.after_server_move.result (holds_stand d.worker d.session _ 0 olds c.requires.placed.set.around.holds) r.keeps r.conn c.after_server_move.ensures.goes;
+      goes = goes_from_exchange d d2 d3 e e2 olds news net net2 c.after_server_move.result (holds_stand d.worker d.session (conn_seen (Exchanging e)) 0 olds c.requires.placed.set.around.holds) r.keeps r.conn c.after_server_move.ensures.goes;
       rooms = c.after_server_move.ensures.rooms;
     }
