@@ -1,12 +1,11 @@
 -- The entries of a session's calls over the list of seats.
-use Rattle.std.proofs.Common.{◌≡◌, ◌⊎◌, ℕ, true, false, zero, suc, ◌+◌, ◌≤◌, Bool, List, [], ◌∷◌, ◌++◌, refl, sym, ap, subst, ◌∙◌, inl, inr, arith, Option, Some, None, ⊎_elim}
-use Rattle.std.specs.Prelude.{⊤, IfSome}
+use Rattle.std.proofs.Common.{◌≡◌, ℕ, true, false, zero, suc, Bool, List, [], ◌∷◌, refl, sym, ap, subst, ◌∙◌, inl, inr, arith, Option, Some, None, ⊎_elim}
+use Rattle.std.specs.Prelude.{IfSome}
 use Rattle.std.specs.List.{slice_get, slice_set}
 use Rattle.hx_base.specs.declared.numbers.ThreadNo.{ThreadNo}
 use Rattle.hx_base.specs.declared.numbers.SessionNo.{SessionNo}
 use Rattle.hx_base.specs.declared.numbers.ServerNo.{ServerNo}
 use Rattle.hx_base.specs.declared.numbers.ConnId.{ConnId}
-use Rattle.hx_base.specs.declared.numbers.Face.{Face}
 use Rattle.hx_base.specs.Shown.{Shown}
 use Rattle.hx_message.specs.declared.MethodKind.{MethodKind}
 use Rattle.hx_link.specs.Told.{LinkState}
@@ -14,9 +13,8 @@ use Rattle.hx_link.specs.Nets.{NetState}
 use Rattle.hx_conn.specs.Conns.{RestedNow, BusyNow}
 use Rattle.hx_conn.specs.Steps.{rested_of}
 use Rattle.hx_conn.specs.WhatTold.{shown}
-use Rattle.hx_pool.specs.declared.entries.Entry.{Entry}
 use Rattle.hx_pool.specs.declared.entries.Note.{Note}
-use Rattle.hx_pool.specs.SeatView.{History, StandsInOneHistory}
+use Rattle.hx_pool.specs.SeatView.{History}
 use Rattle.hx_pool.specs.Opening.{Closes}
 use Rattle.hx_connecting.specs.declared.connecting.Connected.{Connected}
 use Rattle.hx_connecting.specs.declared.connecting.Connected.TheVariants.{Begun, Dead, Refused}
@@ -28,9 +26,9 @@ use Rattle.hx_connecting.specs.Choice.{AskedAll, Chooses, in_turn}
 use Rattle.hx_connecting.specs.Closing.{ClosesAt, ClosesHeld, ConnectsTo}
 use Rattle.hx_connecting.specs.Connecting.{Connects, TriesRested}
 use Rattle.hx_connecting.specs.Sessions.{Holding, Exchanging}
-use Rattle.hx_connecting.specs.Settling.{Settles, SettlesAs, Shared, RestsAs}
+use Rattle.hx_connecting.specs.Settling.{SettlesAs, RestsAs}
 use Rattle.hx_connecting.specs.Touches.{Touch, touch_marks, went_marks, Had, Went, Stays, Rests, Ends, EndsTakenBack}
-use Rattle.hx_connecting.specs.Touched.{SeatMarks, marks_for, ConnectTouches, AllStand}
+use Rattle.hx_connecting.specs.Touched.{SeatMarks, marks_for, AllStand}
 use Rattle.hx_connecting.proofs.AddingLemmas.{seat_adds, nothing, joined, adds_set, adds_no_touch, adds_touch, adds_then, adds_stand, holds_stand}
 use Rattle.hx_connecting.proofs.AroundLemmas.{holds_here, numbered_here}
 use Rattle.hx_connecting.proofs.ParkLemmas.{parks_seat, refused_end}

@@ -1,43 +1,22 @@
 -- The entries of calls, seat by seat.
-use Rattle.std.proofs.Common.{◌≡◌, ◌⊎◌, ℕ, zero, suc, ◌+◌, ◌≤◌, Bool, List, [], ◌∷◌, ◌++◌, refl, sym, ap, subst, ◌∙◌, inl, inr, arith, Option, Some, None, ⊎_elim}
-use Rattle.std.specs.Prelude.{⊤, IfSome}
+use Rattle.std.proofs.Common.{◌≡◌, ℕ, zero, suc, ◌+◌, ◌≤◌, Bool, List, [], ◌∷◌, ◌++◌, refl, sym, subst, ◌∙◌, arith, Option, Some, None}
 use Rattle.std.specs.List.{slice_get, slice_set}
 use Rattle.std.proofs.lemmas.List.{append-nil}
 use Rattle.hx_base.specs.declared.numbers.ThreadNo.{ThreadNo}
 use Rattle.hx_base.specs.declared.numbers.SessionNo.{SessionNo}
-use Rattle.hx_base.specs.declared.numbers.ServerNo.{ServerNo}
-use Rattle.hx_base.specs.declared.numbers.ConnId.{ConnId}
-use Rattle.hx_base.specs.declared.numbers.Face.{Face}
-use Rattle.hx_base.specs.Shown.{Shown}
-use Rattle.hx_message.specs.declared.MethodKind.{MethodKind}
-use Rattle.hx_link.specs.Told.{LinkState}
-use Rattle.hx_link.specs.Nets.{NetState}
-use Rattle.hx_conn.specs.Conns.{RestedNow, BusyNow}
-use Rattle.hx_conn.specs.WhatTold.{shown}
-use Rattle.hx_config.specs.declared.parts.Server.{Server}
 use Rattle.hx_pool.specs.declared.entries.Entry.{Entry}
 use Rattle.hx_pool.specs.declared.entries.Note.{Note}
-use Rattle.hx_pool.specs.SeatView.{About, History, Makes, Calls, StandsInOneHistory}
-use Rattle.hx_pool.specs.Opening.{Closes}
+use Rattle.hx_pool.specs.SeatView.{History, StandsInOneHistory}
 use Rattle.hx_pool.proofs.Calls.{makes_both}
-use Rattle.hx_connecting.specs.declared.connecting.Connected.{Connected}
-use Rattle.hx_connecting.specs.declared.connecting.Connected.TheVariants.{Begun, Dead, Refused}
 use Rattle.hx_connecting.specs.Adding.{SeatAdds, EachAdds, AddsFor}
-use Rattle.hx_connecting.specs.Around.{AreNumbered, HasAround}
-use Rattle.hx_connecting.specs.Choice.{AskedAll}
-use Rattle.hx_connecting.specs.Closing.{ClosesAt, ClosesHeld, ConnectsTo}
-use Rattle.hx_connecting.specs.Connecting.{Connects, TriesRested}
 use Rattle.hx_connecting.specs.Holds.{HoldsConn}
 use Rattle.hx_connecting.specs.Sessions.{Holding}
-use Rattle.hx_connecting.specs.Settling.{Settles, Shared, RestsAs}
-use Rattle.hx_connecting.specs.Touches.{Touch, touch_marks, went_marks, marks_at, AddsEach, EachSeat, HasMarks, Adds, Balances, Came, Had, Went, Stays, Rests, Ends, EndsTakenBack}
-use Rattle.hx_connecting.specs.Touched.{Marked, SeatMarks, marks_for, AllStand}
+use Rattle.hx_connecting.specs.Touches.{Touch, touch_marks, marks_at, AddsEach, EachSeat, HasMarks, Balances}
+use Rattle.hx_connecting.specs.Touched.{SeatMarks, AllStand}
 use Rattle.hx_connecting.specs.Wanted.{OpensWereWanted}
-use Rattle.hx_connecting.proofs.AroundLemmas.{holds_here, numbered_here}
-use Rattle.hx_connecting.proofs.EachLemmas.{asked_each, here, not_here}
-use Rattle.hx_connecting.proofs.ParkLemmas.{parks_seat, refused_end}
-use Rattle.hx_connecting.proofs.TouchLemmas.{marked_both, marked_none, marked_gate, closes_seat, connects_touch}
-use Rattle.hx_connecting.proofs.WantedLemmas.{OpenNone, wanted_none, wanted_both, wanted_later, wanted_behind, connects_wanted}
+use Rattle.hx_connecting.proofs.EachLemmas.{here, not_here}
+use Rattle.hx_connecting.proofs.TouchLemmas.{marked_both, marked_none}
+use Rattle.hx_connecting.proofs.WantedLemmas.{OpenNone, wanted_none, wanted_both, wanted_later, wanted_behind}
 
 some_is : {A : Type 0} (x y : A) → Some x ≡ Some y → x ≡ y
 some_is x y e = cc

@@ -1,20 +1,19 @@
 -- The marks of a call, seat by seat.
-use Rattle.std.proofs.Common.{◌≡◌, ℕ, zero, suc, ◌+◌, ◌≤◌, Bool, true, false, eqb, List, [], ◌∷◌, ◌++◌, refl, sym, ap, subst, ◌∙◌, inl, inr, arith, Option, Some, None, ⊎_elim, eq-eqb}
-use Rattle.std.specs.Prelude.{if◌then◌else◌, ◌==◌, ⊤}
+use Rattle.std.proofs.Common.{◌≡◌, ℕ, zero, suc, ◌+◌, ◌≤◌, Bool, true, false, eqb, List, [], ◌∷◌, ◌++◌, refl, sym, ap, subst, arith, Option, Some, None, eq-eqb}
+use Rattle.std.specs.Prelude.{if◌then◌else◌}
 use Rattle.std.specs.List.{slice_get, slice_set}
 use Rattle.std.proofs.lemmas.List.{append-nil}
-use Rattle.std.proofs.lemmas.Bool.{eqb-true, eqb-false}
+use Rattle.std.proofs.lemmas.Bool.{eqb-true}
 use Rattle.hx_base.specs.declared.numbers.ThreadNo.{ThreadNo}
 use Rattle.hx_base.specs.declared.numbers.SessionNo.{SessionNo}
-use Rattle.hx_base.specs.declared.numbers.ServerNo.{ServerNo}
 use Rattle.hx_config.specs.declared.parts.Server.{Server}
 use Rattle.hx_pool.specs.declared.entries.Entry.{Entry}
 use Rattle.hx_pool.specs.declared.entries.Note.{Note}
-use Rattle.hx_pool.specs.SeatView.{History, Makes, Calls, StandsInOneHistory}
+use Rattle.hx_pool.specs.SeatView.{History, StandsInOneHistory}
 use Rattle.hx_pool.specs.Opening.{ReadsGate}
-use Rattle.hx_connecting.specs.Touches.{Touch, touch_marks, marks_at, AddsEach, HasMarks, Adds, Balances}
+use Rattle.hx_connecting.specs.Touches.{Touch, touch_marks, marks_at, AddsEach, HasMarks, Balances}
 use Rattle.hx_connecting.specs.Choice.{AskedAll}
-use Rattle.hx_connecting.specs.Touched.{Marked, SeatMarks, marks_for, AllStand, EachMarks, AddsSome}
+use Rattle.hx_connecting.specs.Touched.{SeatMarks, AllStand, EachMarks, AddsSome}
 use Rattle.hx_connecting.proofs.TouchLemmas.{seat_both, marked_none, marked_gate}
 
 some_is : {A : Type 0} (x y : A) → Some x ≡ Some y → x ≡ y

@@ -9,7 +9,6 @@ pub mod TouchLemmas
 pub mod EachLemmas
 pub mod AddingLemmas
 pub mod AddedCalls
-pub mod TouchedCalls
 pub mod WantedLemmas
 pub mod RoomLemmas
 pub mod ParkLemmas

@@ -1,6 +1,6 @@
 -- What a call opened was wanted, behind other entries too, and as more is seen.
-use Rattle.std.proofs.Common.{◌≡◌, ◌≤◌, ◌<◌, ◌⊎◌, ℕ, Bool, true, false, cond, List, [], ◌∷◌, ◌++◌, refl, sym, ap, subst, ◌∙◌, inl, inr, append_assoc, Ok, ⊎_elim}
-use Rattle.std.specs.Prelude.{⊤, filter}
+use Rattle.std.proofs.Common.{◌≡◌, ◌⊎◌, ℕ, Bool, true, false, cond, List, [], ◌∷◌, ◌++◌, sym, ap, subst, ◌∙◌, inl, inr, append_assoc, Ok, ⊎_elim}
+use Rattle.std.specs.Prelude.{⊤}
 use Rattle.std.proofs.lemmas.List.{append-nil, append_cancel_left, append_cancel_right}
 use Rattle.hx_base.specs.declared.numbers.ThreadNo.{ThreadNo}
 use Rattle.hx_base.specs.declared.numbers.SessionNo.{SessionNo}
@@ -10,14 +10,13 @@ use Rattle.hx_message.specs.declared.MethodKind.{MethodKind}
 use Rattle.hx_link.specs.Nets.{NetState}
 use Rattle.hx_conn.specs.Conns.{RestedNow}
 use Rattle.hx_conn.specs.WhatTold.{shown}
-use Rattle.hx_pool.specs.declared.entries.Found.{Found}
 use Rattle.hx_pool.specs.declared.entries.Entry.{Entry}
 use Rattle.hx_pool.specs.declared.entries.Entry.TheVariants.{Open, Park, Take, Free, Close, Look, Up, Down, Count, Gate, SetGate, Round}
 use Rattle.hx_pool.specs.declared.entries.Note.{Note}
-use Rattle.hx_pool.specs.History.{plain, is_mark, entries_of, marks_of}
-use Rattle.hx_pool.specs.SeatView.{About, History, Makes, Calls}
+use Rattle.hx_pool.specs.History.{plain, is_mark, marks_of}
+use Rattle.hx_pool.specs.SeatView.{About, History, Makes}
 use Rattle.hx_pool.specs.Rules.{allows}
-use Rattle.hx_pool.specs.Causes.{Among, IsUnavailableTo, place_of}
+use Rattle.hx_pool.specs.Causes.{place_of}
 use Rattle.hx_pool.specs.Opening.{Opens, Closes}
 use Rattle.hx_pool.specs.Taking.{NoneRestsIn}
 use Rattle.hx_pool.specs.Takeover.{AllowsSome, OthersUnavailable}
@@ -28,7 +27,7 @@ use Rattle.hx_pool.proofs.Purges.{among_right}
 use Rattle.hx_connecting.specs.declared.connecting.Connected.{Connected}
 use Rattle.hx_connecting.specs.declared.connecting.Connected.TheVariants.{Begun, Dead, Refused}
 use Rattle.hx_connecting.specs.Connecting.{FindsOne, FindsNone, TriesRested, TriesNew, Connects}
-use Rattle.hx_connecting.specs.Wanted.{OpensWanted, OpensWereWanted}
+use Rattle.hx_connecting.specs.Wanted.{OpensWereWanted}
 use Rattle.hx_connecting.proofs.WantLemmas.{lift, opens_wanted}
 use Rattle.hx_connecting.proofs.TouchLemmas.{one_seat, none_seat}
 

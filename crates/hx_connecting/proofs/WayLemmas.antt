@@ -265,7 +265,3 @@ same_then a b c x y = record {
     by_told : (t : Option LinkTold) → IfSome t (λ k. (d : LinkTold) × (b.told ≡ Some d) × GrowsTold k d) → IfSome t (λ k. (e : LinkTold) × (c.told ≡ Some e) × GrowsTold k e)
     by_told None h = tt
     by_told (Some k) h = on k h.0 h.1 h.2
-
--- no call
-pub same_self : (a : LinkState) → IsSameLink (what_of_link a) (what_of_link a)
-same_self a = same_of a a refl refl (omega arith) (stay a.sent) (stay a.taken) (λ e. e)

@@ -8,7 +8,6 @@ pub mod Holds
 pub mod Journals
 pub mod Rooms
 pub mod Adding
-pub mod Ways
 pub mod Choice
 pub mod Connecting
 pub mod Closing

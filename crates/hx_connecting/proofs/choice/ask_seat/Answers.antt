@@ -1,6 +1,5 @@
-use Rattle.std.proofs.Common.{◌≡◌, map, get_or, refl, sym, ap}
+use Rattle.std.proofs.Common.{get_or, refl}
 use Rattle.std.proofs.lemmas.List.{map-set}
-use Rattle.std.proofs.lemmas.Option.{slice_get-get_or}
 use Rattle.hx_connecting.specs.Journals.{room_of}
 use Rattle.hx_connecting.proofs.RoomLemmas.{room_by, rooms_set}
 use Rattle.hx_connecting.proofs.SeatLemmas.{seat_here}

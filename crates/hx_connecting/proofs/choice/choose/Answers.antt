@@ -1,7 +1,7 @@
-use Rattle.std.proofs.Common.{◌≡◌, ◌<◌, ◌≤◌, ℕ, length, map, sym, ap, subst, ◌∙◌, arith}
+use Rattle.std.proofs.Common.{◌≡◌, ◌<◌, ℕ, length, map, sym, ap, subst, ◌∙◌}
 use Rattle.std.proofs.Common.{◌+◌}
 use Rattle.std.proofs.lemmas.List.{length-map}
-use Rattle.hx_connecting.specs.Choice.{ChoosesReady, next_turn}
+use Rattle.hx_connecting.specs.Choice.{ChoosesReady}
 use Rattle.hx_connecting.specs.Journals.{room_of}
 use Rattle.hx_connecting.proofs.RoomLemmas.{rooms_both}
 use Rattle.hx_connecting.proofs.ChoiceLemmas.{IsAsking, asks_on, chooses_now, at_inside}

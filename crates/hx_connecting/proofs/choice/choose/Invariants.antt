@@ -1,4 +1,4 @@
-use Rattle.std.proofs.Common.{◌≡◌, ◌<◌, length, map, ℕ, ◌≤◌}
+use Rattle.std.proofs.Common.{◌≡◌, length, map}
 use Rattle.hx_connecting.specs.Journals.{room_of}
 use Rattle.hx_connecting.specs.Rooms.{RoomsStay}
 use Rattle.hx_connecting.proofs.ChoiceLemmas.{IsAsking}

@@ -1,4 +1,4 @@
-use Rattle.std.proofs.Common.{◌≡◌, ◌<◌, ℕ, length, List, map, get_or, sym, ap, subst, ◌∙◌, refl, Some}
+use Rattle.std.proofs.Common.{◌≡◌, ◌<◌, ℕ, length, List, map, get_or, sym, ap, subst, ◌∙◌, Some}
 use Rattle.std.specs.List.{slice_get, slice_set}
 use Rattle.std.proofs.lemmas.List.{map-set}
 use Rattle.hx_base.specs.declared.numbers.ServerNo.{ServerNo}

@@ -1,5 +1,5 @@
-use Rattle.std.proofs.Common.{◌≡◌, ℕ, List, map, get_or, Some}
-use Rattle.std.specs.List.{slice_get, slice_set}
+use Rattle.std.proofs.Common.{List, map, get_or}
+use Rattle.std.specs.List.{slice_set}
 use Rattle.std.proofs.lemmas.List.{map-set}
 use Rattle.hx_pool.specs.SeatView.{History}
 use Rattle.hx_connecting.specs.Closing.{ConnectsTo}

@@ -1,4 +1,4 @@
-use Rattle.std.proofs.Common.{◌≡◌, ℕ, Bool, true, false, refl, sym, ap, subst, ◌∙◌, inl, inr}
+use Rattle.std.proofs.Common.{◌≡◌, true, false, sym, ap, subst, ◌∙◌, inl, inr}
 use Rattle.hx_base.specs.declared.rules.PoolRules.{PoolRules}
 use Rattle.hx_base.specs.declared.numbers.ConnId.{ConnId}
 use Rattle.hx_base.specs.declared.numbers.Face.{Face}
@@ -11,7 +11,6 @@ use Rattle.hx_connecting.specs.Connecting.{IsClosed}
 use Rattle.hx_connecting.specs.Journals.{room_of}
 use Rattle.hx_connecting.specs.Rooms.{RoomStays}
 use Rattle.hx_connecting.proofs.RoomLemmas.{room_by, room_both}
-use Rattle.hx_connecting.specs.Settling.{MaySettle, SettlesAs, Settles, Shared}
 use Rattle.hx_connecting.proofs.settle.settle_at.Goals.{in-Err, in_default}
 use Rattle.hx_connecting.proofs.settle.settle_at.Goals as goal
 
