@@ -1,6 +1,5 @@
 -- What the parts of a step touched, one behind another.
-use Rattle.std.proofs.Common.{◌≤◌, eqb, true, false, arith, eq-eqb, ne_eqb, ◌≡◌, ◌⊎◌, ℕ, ◌-◌, ◌==◌, Bool, List, [], ◌∷◌, map, refl, sym, ap, subst, ◌∙◌, inl, inr, Option, Some, None, ⊎_elim}
-use Rattle.std.specs.Prelude.{⊤}
+use Rattle.std.proofs.Common.{◌≤◌, eqb, true, false, arith, eq-eqb, ne_eqb, ◌≡◌, ◌⊎◌, ℕ, ◌-◌, ◌==◌, Bool, List, refl, sym, ap, subst, ◌∙◌, inl, inr, Option, Some, None, ⊎_elim}
 use Rattle.std.proofs.lemmas.Bool.{eqb-true, eqb-false}
 use Rattle.hx_base.specs.declared.numbers.ThreadNo.{ThreadNo}
 use Rattle.hx_base.specs.declared.numbers.SessionNo.{SessionNo}
@@ -27,7 +26,7 @@ use Rattle.hx_session.specs.declared.step.Waiting.{Waiting}
 use Rattle.hx_session.specs.Beginning.{ChoosesServer, ChoosesIn}
 use Rattle.hx_session.specs.Desks.{DeskNow}
 use Rattle.hx_session.specs.Marking.{AddsMarks}
-use Rattle.hx_session.specs.Parting.{first_of, came_conn, MayTouch, CountsOn, Parted, PartTouches, StageTouches, TouchesOn, LetsGo}
+use Rattle.hx_session.specs.Parting.{first_of, MayTouch, CountsOn, Parted, PartTouches, StageTouches, LetsGo}
 use Rattle.hx_session.specs.Seen.{session_seen}
 use Rattle.hx_session.specs.Stages.{StageNow, Reading, Choosing, Exchanging, Answering, Left, stage_now}
 

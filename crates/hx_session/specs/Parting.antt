@@ -1,5 +1,5 @@
 -- What a part of a step did at the worker's seats: it touched at most one connection, with which the step is over.
-use Rattle.std.specs.Prelude.{◌≡◌, ◌⊎◌, ℕ, ◌-◌, ◌==◌, Bool, List, Option, Some, None, ⊤}
+use Rattle.std.specs.Prelude.{◌≡◌, ◌⊎◌, ◌-◌, ◌==◌, Bool, List, Option, None, ⊤}
 use Rattle.hx_conn.specs.Conns.{RestedNow}
 use Rattle.hx_link.specs.Nets.{NetState, NetDetaches}
 use Rattle.hx_link.specs.Told.{LinkState}

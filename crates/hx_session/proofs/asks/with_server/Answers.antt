@@ -1,4 +1,4 @@
-use Rattle.std.proofs.Common.{◌≡◌, List, sym, subst}
+use Rattle.std.proofs.Common.{List, sym, subst}
 use Rattle.hx_connecting.specs.Rooms.{RoomsStay}
 use Rattle.hx_session.proofs.asks.with_server.Goals.{in-Some, in-None}
 use Rattle.hx_connecting.specs.Journals.{room_of}

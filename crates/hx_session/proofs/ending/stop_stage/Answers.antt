@@ -1,6 +1,6 @@
 use Rattle.hx_connecting.specs.Journals.{room_of}
 use Rattle.hx_connecting.proofs.RoomLemmas.{rooms_none}
-use Rattle.std.proofs.Common.{◌≡◌, List, map, refl, subst, inr, Some}
+use Rattle.std.proofs.Common.{List, map, refl, subst, inr, Some}
 use Rattle.hx_pool.specs.SeatView.{History}
 use Rattle.hx_connecting.specs.Sessions.{Exchanging as OnConn}
 use Rattle.hx_connecting.specs.Touches.{Ends as Closes}

@@ -1,4 +1,4 @@
-use Rattle.std.proofs.Common.{◌≡◌, List, map}
+use Rattle.std.proofs.Common.{List, map}
 use Rattle.hx_pool.specs.SeatView.{History}
 use Rattle.hx_session.specs.Desks.{desk_now, DeskNow}
 use Rattle.hx_session.proofs.PartingLemmas.{leaves_then}
