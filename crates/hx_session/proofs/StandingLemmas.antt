@@ -26,6 +26,7 @@ use Rattle.hx_session.specs.Ending.{HasOwn, GaveNothing, AnswersOwn, CutsOff}
 use Rattle.hx_session.specs.Exchanged.{ExchangeNow}
 use Rattle.hx_session.specs.Fits.{GoesTo}
 use Rattle.hx_session.specs.Over.{after_record}
+use Rattle.hx_session.specs.Parting.{PartTouches}
 use Rattle.hx_session.specs.Since.{HasSince}
 use Rattle.hx_session.specs.Stages.{own_stage, StageNow, ChoosingNow, Reading, Choosing, Exchanging, Answering, Left, StandsSo, IsBetween, IsAnswering}
 use Rattle.hx_session.specs.declared.stage.Came.{Came}
@@ -186,10 +187,11 @@ placed_on d d' e e' seats p k c carried failed = record { set = set_on d d' e e'
 
 -- a part of a step after which the session leaves
 pub goes_ends : {X : Type 0} (d d' : DeskNow) (s : StageNow) (seats seats' : List History) (net net' : NetState) (c : Came X) (x : Ending X) → c ≡ Ends x → KeepsPlace d d' seats seats' net net'
-    → IsLeaving d' x.held seats' → TellsEnd s d d' x.served x.cause → Goes d s seats net d' c seats' net'
-goes_ends {X = X} d d' s seats seats' net net' c x is keeps leaving told = record {
+    → IsLeaving d' x.held seats' → PartTouches d s seats net d' (Ends x) seats' net' → TellsEnd s d d' x.served x.cause → Goes d s seats net d' c seats' net'
+goes_ends {X = X} d d' s seats seats' net net' c x is keeps leaving touches told = record {
   placed = subst (λ (y : Came X). CamePlaced d' y seats') (sym is) leaving;
   keeps = keeps;
+  touches = subst (λ (y : Came X). PartTouches d s seats net d' y seats' net') (sym is) touches;
   routed = λ back r. subst (λ (y : Came X). CameRouted back y) (sym is) tt;
   told = subst (λ (y : Came X). CameTells d s d' y) (sym is) told;
 }

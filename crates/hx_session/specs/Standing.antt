@@ -18,6 +18,7 @@ use Rattle.hx_session.specs.Desks.{DeskNow}
 use Rattle.hx_session.specs.Ending.{HasOwn}
 use Rattle.hx_session.specs.Exchanged.{ExchangeNow}
 use Rattle.hx_session.specs.Fits.{GoesTo}
+use Rattle.hx_session.specs.Parting.{PartTouches, StageTouches}
 use Rattle.hx_session.specs.Seen.{conn_seen}
 use Rattle.hx_session.specs.Stages.{StageNow, Reading, Choosing, Exchanging, Answering, Left, StandsSo, stage_now}
 use Rattle.hx_session.specs.Telling.{CameTells, TellsNone}
@@ -158,6 +159,7 @@ pub record Goes {X : Type 0} (d : DeskNow) (s : StageNow) (seats : List History)
     (d' : DeskNow) (came : Came X) (seats' : List History) (net' : NetState) : Type 0 where
   pub placed : CamePlaced d' came seats'
   pub keeps : KeepsPlace d d' seats seats' net net'
+  pub touches : PartTouches d s seats net d' came seats' net'
   pub routed : (back : Back) → IsRoutedTo back s → CameRouted back came
   pub told : CameTells d s d' came
 
@@ -166,6 +168,7 @@ pub record ComesTo (d : DeskNow) (s : StageNow) (seats : List History) (net : Ne
     (d' : DeskNow) (s' : StageNow) (seats' : List History) (net' : NetState) : Type 0 where
   pub placed : IsPlaced d' s' seats'
   pub keeps : KeepsPlace d d' seats seats' net net'
+  pub touches : StageTouches d s seats net d' s' seats' net'
   pub routed : (back : Back) → IsRoutedTo back s → IsRoutedTo back s'
   pub told : TellsNone d d'
 

@@ -1,6 +1,6 @@
 //! What a step does in an exchange.
 
-ghost use Rattle.std.specs.Prelude.{◌≡◌, ◌↔◌, ◌+◌, ◌≤◌, ◌||◌, ◌&&◌, not, IsTrue, List, map};
+ghost use Rattle.std.specs.Prelude.{◌≡◌, ◌⊎◌, ◌↔◌, ◌+◌, ◌≤◌, ◌||◌, ◌&&◌, not, IsTrue, List, map, Option, None};
 ghost use Rattle.httparse.specs.Grammar as grammar;
 ghost use Rattle.hx_config.specs.declared.parts.Back.{Back};
 ghost use Rattle.hx_message.specs.declared.BodyKind.TheVariants.{ToEnd};
@@ -16,7 +16,13 @@ ghost use Rattle.hx_session.specs.Carried.{IsCarried};
 ghost use Rattle.hx_session.specs.Over.{IsOver, IsTold, closing_of};
 ghost use Rattle.hx_session.specs.Finishing.{MayDo, DoesAtEnd, IsAnswerGiven, WasOver, EndsAnswer, RestsTo};
 ghost use Rattle.hx_session.specs.Passing.{PassesBody, BeginsBody};
+ghost use Rattle.hx_session.specs.Seen.{conn_seen};
 ghost use Rattle.hx_session.specs.Stages.{StageNow, Reading, Exchanging};
+ghost use Rattle.hx_connecting.specs.Adding.{RestTouches};
+ghost use Rattle.hx_connecting.specs.Journals.{room_of};
+ghost use Rattle.hx_connecting.specs.Rooms.{RoomsStay};
+ghost use Rattle.hx_connecting.specs.Touches.{Touch};
+ghost use Rattle.hx_session.specs.Parting.{MayTouch, CountsOn, came_conn, first_of};
 ghost use Rattle.hx_session.specs.Standing.{IsPlaced, CamePlaced, IsRoutedTo, CameRouted, KeepsDesk, KeepsAsk, IsSameConn, KeepsPlace, Goes};
 ghost use Rattle.hx_session.specs.Telling.{IsStillTold, GivesPassed, CameTells};
 
@@ -313,6 +319,7 @@ fn spell_final<L: Link>(
 /// The exchange goes on.
 fn goes_on<L: Link>(exchange: Exchange<L>, waits: Waiting, moved: bool) -> Came<L>
     ensures placed { (d : DeskNow) (seats : List History) → IsPlaced d (Exchanging (exchange_now exchange)) seats → CamePlaced d result seats }
+    ensures conn { came_conn result ≡ conn_seen (Exchanging (exchange_now exchange)) }
     ensures routed { (back : Back) → IsRoutedTo back (Exchanging (exchange_now exchange)) → CameRouted back result }
     ensures told { (d0 d : DeskNow) (s0 : StageNow) → IsStillTold d0 s0 d (Exchanging (exchange_now exchange))
         → CameTells d0 s0 d result }
@@ -350,6 +357,7 @@ fn look_for_head<L: Link, S: Seat<Rested<L>>, N: Net<L = L>>(
 ) -> Came<L>
     requires heads { exchange.answer ≡ Heads }
     requires placed { IsPlaced (desk_now L.state desk.old) (Exchanging (exchange_now exchange)) (map S.history seats.old) }
+    ensures rooms { RoomsStay S.history (room_of S.kept_from S.spare) seats.old seats.new }
     ensures goes { Goes (desk_now L.state desk.old) (Exchanging (exchange_now exchange)) (map S.history seats.old) (N.state net.old)
         (desk_now L.state desk.new) result (map S.history seats.new) (N.state net.new) }
 {
@@ -411,10 +419,13 @@ fn pass<L: Link, S: Seat<Rested<L>>, N: Net<L = L>>(
 ) -> (Served, Option<Rested<L>>)
     requires placed { IsPlaced (desk_now L.state desk.old) (Exchanging (exchange_now exchange)) (map S.history seats.old) }
     requires over { (b : BodyWay) × IsOver (desk_now L.state desk.old) (exchange_now exchange) b }
+    ensures rooms { RoomsStay S.history (room_of S.kept_from S.spare) seats.old seats.new }
     ensures told { (why : Cause) → IsTold (L.state desk.old.client) exchange.busy.link why result.0 }
     ensures placed { IsPlaced (desk_now L.state desk.new) (Reading result.1) (map S.history seats.new) }
     ensures keeps { KeepsPlace (desk_now L.state desk.old) (desk_now L.state desk.new) (map S.history seats.old) (map S.history seats.new)
         (N.state net.old) (N.state net.new) }
+    ensures touches { RestTouches desk.old.worker desk.old.session (first_of (desk_now L.state desk.old))
+        (map S.history seats.old) (map S.history seats.new) result.1 }
     ensures server { RestsTo exchange.busy.server result.1 }
     ensures gives { GivesPassed (desk_now L.state desk.old) (desk_now L.state desk.new) (exchange_now exchange) result.0 }
 {
@@ -436,6 +447,7 @@ fn finish<L: Link, S: Seat<Rested<L>>, N: Net<L = L>>(
 ) -> Came<L>
     requires whole { IsAnswerGiven (desk_now L.state desk.old) (exchange_now exchange) }
     requires placed { IsPlaced (desk_now L.state desk.old) (Exchanging (exchange_now exchange)) (map S.history seats.old) }
+    ensures rooms { RoomsStay S.history (room_of S.kept_from S.spare) seats.old seats.new }
     ensures goes { Goes (desk_now L.state desk.old) (Exchanging (exchange_now exchange)) (map S.history seats.old) (N.state net.old)
         (desk_now L.state desk.new) result (map S.history seats.new) (N.state net.new) }
 {
@@ -456,6 +468,8 @@ fn after_pass<L: Link>(
     served: Served,
 ) -> Came<L>
     ensures placed { (seats : List History) → IsPlaced (desk_now L.state desk.old) (Reading held) seats → CamePlaced (desk_now L.state desk.new) result seats }
+    ensures touches { (d : DeskNow) (x : Option Touch) → (x ≡ None) ⊎ (held ≡ None)
+        → MayTouch result x × CountsOn d (desk_now L.state desk.new) result }
     ensures keeps { KeepsDesk (desk_now L.state desk.old) (desk_now L.state desk.new) }
     ensures routed { (back : Back) → IsRoutedTo back (Reading held) → CameRouted back result }
     ensures told { (d : DeskNow) (e : ExchangeNow) → closing ≡ closing_of e.answer
@@ -479,6 +493,7 @@ fn refuse_ask<L: Link, S: Seat<Rested<L>>, N: Net<L = L>>(
     at: At,
 ) -> Came<L>
     requires placed { IsPlaced (desk_now L.state desk.old) (Exchanging (exchange_now exchange)) (map S.history seats.old) }
+    ensures rooms { RoomsStay S.history (room_of S.kept_from S.spare) seats.old seats.new }
     ensures goes { Goes (desk_now L.state desk.old) (Exchanging (exchange_now exchange)) (map S.history seats.old) (N.state net.old)
         (desk_now L.state desk.new) result (map S.history seats.new) (N.state net.new) }
 {
@@ -499,6 +514,7 @@ pub(crate) fn go_on<L: Link, S: Seat<Rested<L>>, N: Net<L = L>>(
     at: At,
 ) -> Came<L>
     requires placed { IsPlaced (desk_now L.state desk.old) (Exchanging (exchange_now exchange)) (map S.history seats.old) }
+    ensures rooms { RoomsStay S.history (room_of S.kept_from S.spare) seats.old seats.new }
     ensures goes { Goes (desk_now L.state desk.old) (Exchanging (exchange_now exchange)) (map S.history seats.old) (N.state net.old)
         (desk_now L.state desk.new) result (map S.history seats.new) (N.state net.new) }
 {

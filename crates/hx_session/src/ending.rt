@@ -11,6 +11,9 @@ ghost use Rattle.hx_base.specs.declared.numbers.ThreadNo.{ThreadNo};
 ghost use Rattle.hx_connecting.specs.Around.{HasAround, abouts};
 ghost use Rattle.hx_connecting.specs.Closing.{ClosesAt};
 ghost use Rattle.hx_connecting.specs.Sessions.{Exchanging as OnConn};
+ghost use Rattle.hx_connecting.specs.Journals.{room_of};
+ghost use Rattle.hx_connecting.specs.Rooms.{RoomsStay};
+ghost use Rattle.hx_session.specs.Parting.{PartTouches};
 ghost use Rattle.hx_session.specs.declared.stage.Came.TheVariants.{Ends};
 ghost use Rattle.hx_session.specs.Desks.{desk_now, IsDesk};
 ghost use Rattle.hx_session.specs.Exchanged.{exchange_now};
@@ -119,6 +122,7 @@ pub(crate) fn cut_off<L: Link, S: Seat<Rested<L>>, N: Net<L = L>>(
     cause: CutCause,
 ) -> Served
     requires set { IsSet (desk_now L.state desk.old) (Exchanging (exchange_now exchange)) (map S.history seats.old) }
+    ensures rooms { RoomsStay S.history (room_of S.kept_from S.spare) seats.old seats.new }
     ensures cuts { CutsOff (desk_now L.state desk.old) (desk_now L.state desk.new) (exchange_now exchange) cause result }
     ensures closes { ClosesAt (map S.history seats.old) (map S.history seats.new) exchange.busy.server.0
         desk.old.session exchange.busy.id (N.state net.old) (N.state net.new) exchange.busy.link }
@@ -145,6 +149,7 @@ pub(crate) fn cut<L: Link, S: Seat<Rested<L>>, N: Net<L = L>>(
 ) -> Came<L>
     requires ends { cut_ends cause ≡ left_cause.Cut }
     requires set { IsSet (desk_now L.state desk.old) (Exchanging (exchange_now exchange)) (map S.history seats.old) }
+    ensures rooms { RoomsStay S.history (room_of S.kept_from S.spare) seats.old seats.new }
     ensures ends { EndsInCut (desk_now L.state desk.old) (desk_now L.state desk.new) (exchange_now exchange) cause result }
     ensures goes { Goes (desk_now L.state desk.old) (Exchanging (exchange_now exchange)) (map S.history seats.old) (N.state net.old)
         (desk_now L.state desk.new) result (map S.history seats.new) (N.state net.new) }
@@ -173,6 +178,7 @@ pub(crate) fn give_up<L: Link, S: Seat<Rested<L>>, N: Net<L = L>>(
     requires known { HasOwnText own.status }
     requires nothing { desk.old.given ≤ desk.old.gave_from }
     requires set { IsSet (desk_now L.state desk.old) (Exchanging (exchange_now exchange)) (map S.history seats.old) }
+    ensures rooms { RoomsStay S.history (room_of S.kept_from S.spare) seats.old seats.new }
     ensures goes { Goes (desk_now L.state desk.old) (Exchanging (exchange_now exchange)) (map S.history seats.old) (N.state net.old)
         (desk_now L.state desk.new) result (map S.history seats.new) (N.state net.new) }
 {
@@ -192,6 +198,7 @@ pub(crate) fn end_by_server<L: Link, S: Seat<Rested<L>>, N: Net<L = L>>(
     requires known { HasOwnText why.1.status }
     requires ends { cut_ends why.0 ≡ left_cause.Cut }
     requires set { IsSet (desk_now L.state desk.old) (Exchanging (exchange_now exchange)) (map S.history seats.old) }
+    ensures rooms { RoomsStay S.history (room_of S.kept_from S.spare) seats.old seats.new }
     ensures goes { Goes (desk_now L.state desk.old) (Exchanging (exchange_now exchange)) (map S.history seats.old) (N.state net.old)
         (desk_now L.state desk.new) result (map S.history seats.new) (N.state net.new) }
 {
@@ -219,6 +226,7 @@ pub(crate) fn lose_server<L: Link, S: Seat<Rested<L>>, N: Net<L = L>>(
     requires known { HasOwnText why.1.status }
     requires ends { cut_ends why.0 ≡ left_cause.Cut }
     requires set { IsSet (desk_now L.state desk.old) (Exchanging (exchange_now exchange)) (map S.history seats.old) }
+    ensures rooms { RoomsStay S.history (room_of S.kept_from S.spare) seats.old seats.new }
     ensures goes { Goes (desk_now L.state desk.old) (Exchanging (exchange_now exchange)) (map S.history seats.old) (N.state net.old)
         (desk_now L.state desk.new) result (map S.history seats.new) (N.state net.new) }
 {
@@ -256,6 +264,7 @@ pub(crate) fn leave_or_cut<L: Link, S: Seat<Rested<L>>, N: Net<L = L>>(
     net: &mut N,
 ) -> Came<L>
     requires placed { IsPlaced (desk_now L.state desk.old) (stage_now stage) (map S.history seats.old) }
+    ensures rooms { RoomsStay S.history (room_of S.kept_from S.spare) seats.old seats.new }
     ensures goes { Goes (desk_now L.state desk.old) (stage_now stage) (map S.history seats.old) (N.state net.old)
         (desk_now L.state desk.new) result (map S.history seats.new) (N.state net.new) }
 {
@@ -276,9 +285,12 @@ pub(crate) fn stop_stage<L: Link, S: Seat<Rested<L>>, N: Net<L = L>>(
     net: &mut N,
 ) -> Ending<L>
     requires placed { IsPlaced (desk_now L.state desk.old) (stage_now stage) (map S.history seats.old) }
+    ensures rooms { RoomsStay S.history (room_of S.kept_from S.spare) seats.old seats.new }
     ensures leaving { IsLeaving (desk_now L.state desk.new) result.held (map S.history seats.new) }
     ensures keeps { KeepsPlace (desk_now L.state desk.old) (desk_now L.state desk.new) (map S.history seats.old) (map S.history seats.new)
         (N.state net.old) (N.state net.new) }
+    ensures touches { PartTouches (desk_now L.state desk.old) (stage_now stage) (map S.history seats.old) (N.state net.old)
+        (desk_now L.state desk.new) (Ends result) (map S.history seats.new) (N.state net.new) }
     ensures client { L.state desk.new.client ≡ L.state desk.old.client }
     ensures cause { result.cause ≡ left_cause.Stop }
     ensures told { StopTells (stage_now stage) (desk_now L.state desk.old) (desk_now L.state desk.new) result.served }

@@ -4,11 +4,12 @@ use Rattle.hx_link.specs.Pipes.{PipeNow}
 use Rattle.hx_pool.specs.SeatView.{History}
 use Rattle.hx_session.specs.Desks.{desk_now, DeskNow}
 use Rattle.hx_session.specs.Exchanged.{exchange_now, ExchangeNow}
-use Rattle.hx_session.specs.Standing.{IsPlaced, KeepsAsk}
 use Rattle.hx_session.specs.Stages.{StageNow, Exchanging}
+use Rattle.hx_session.specs.Standing.{Goes, KeepsAsk}
 use Rattle.hx_session.specs.Telling.{IsStillTold}
-use Rattle.hx_session.proofs.PartLemmas.{went_on}
-use Rattle.hx_session.proofs.StandingLemmas.{desk_is, place_in}
+use Rattle.hx_connecting.specs.Journals.{room_of}
+use Rattle.hx_connecting.proofs.RoomLemmas.{rooms_none}
+use Rattle.hx_session.proofs.PartLemmas.{went_on, still_on}
 use Rattle.hx_session.proofs.TellLemmas.{still_same}
 use Rattle.hx_session.proofs.answers.look_for_head.Goals as goal
 
@@ -23,7 +24,10 @@ returns-in-Interim g c =
     let s = c.spell_interim-spelled.ensures in
     let keeps : KeepsAsk d d2 = subst (λ (p : PipeNow). KeepsAsk (record d { down = p }) d2) c.look_down.ensures.same s.keeps in
     let still : IsStillTold d (Exchanging e) d2 (Exchanging e2) = subst (λ (p : PipeNow). IsStillTold (record d { down = p }) (Exchanging e) d2 (Exchanging e2)) c.look_down.ensures.same s.told in
-    record { goes = went_on d d2 e e2 seats net c.goes_on.result c.requires.placed keeps s.conn s.carried s.good (c.goes_on.ensures.placed d2 seats) c.goes_on.ensures.routed (c.goes_on.ensures.told d d2 (Exchanging e) still) }
+    record {
+      goes = went_on d d2 e e2 seats net c.goes_on.result c.requires.placed keeps s.conn s.carried s.good (c.goes_on.ensures.placed d2 seats) c.goes_on.ensures.routed (c.goes_on.ensures.told d d2 (Exchanging e) still);
+      rooms = rooms_none g.S.HasHistory.history (room_of g.S.HasHistory.kept_from g.S.HasHistory.spare) c.args.seats.now;
+    }
 
 pub returns-in-Final : goal.returns-in-Final
 returns-in-Final g c =
@@ -36,24 +40,20 @@ returns-in-Final g c =
     let s = c.spell_final-spelled.ensures in
     let keeps : KeepsAsk d d2 = subst (λ (p : PipeNow). KeepsAsk (record d { down = p }) d2) c.look_down.ensures.same s.keeps in
     let still : IsStillTold d (Exchanging e) d2 (Exchanging e2) = subst (λ (p : PipeNow). IsStillTold (record d { down = p }) (Exchanging e) d2 (Exchanging e2)) c.look_down.ensures.same s.told in
-    record { goes = went_on d d2 e e2 seats net c.goes_on-in-Final.result c.requires.placed keeps s.conn s.carried s.good (c.goes_on-in-Final.ensures.placed d2 seats) c.goes_on-in-Final.ensures.routed (c.goes_on-in-Final.ensures.told d d2 (Exchanging e) still) }
+    record {
+      goes = went_on d d2 e e2 seats net c.goes_on-in-Final.result c.requires.placed keeps s.conn s.carried s.good (c.goes_on-in-Final.ensures.placed d2 seats) c.goes_on-in-Final.ensures.routed (c.goes_on-in-Final.ensures.told d d2 (Exchanging e) still);
+      rooms = rooms_none g.S.HasHistory.history (room_of g.S.HasHistory.kept_from g.S.HasHistory.spare) c.args.seats.now;
+    }
 
-pub returns-else-exchange : goal.returns-else-exchange
-returns-else-exchange g c =
+pub returns-else-exchange-clause-rooms : goal.returns-else-exchange-clause-rooms
+returns-else-exchange-clause-rooms g c = rooms_none g.S.HasHistory.history (room_of g.S.HasHistory.kept_from g.S.HasHistory.spare) c.args.seats.now
+
+pub returns-else-exchange-clause-goes : goal.returns-else-exchange-clause-goes
+returns-else-exchange-clause-goes g c =
     let d : DeskNow = desk_now g.L.Link.state c.args.desk.now in
     let e : ExchangeNow = exchange_now c.args.exchange in
-    let s : StageNow = Exchanging e in
     let seats : List History = map g.S.HasHistory.history c.args.seats.now in
     let net : NetState = g.N.Net.state c.args.net.now in
-    let same = c.look_down.ensures.same in
-    let d2 : DeskNow = record d { down = c.look_down.new.down } in
-    let is : d2 ≡ d = ap (λ (p : PipeNow). record d { down = p }) same in
-    let goes = c.goes_on-else-exchange.ensures in
-    record {
-      goes = record {
-        placed = goes.placed d2 seats (subst (λ (x : DeskNow). IsPlaced x s seats) (sym is) c.requires.placed);
-        keeps = place_in d d2 seats net (desk_is d d2 is);
-        routed = goes.routed;
-        told = goes.told d d2 s (subst (λ (x : DeskNow). IsStillTold d s x s) (sym is) (still_same d s));
-      };
-    }
+    let k = c.goes_on-else-exchange.ensures in
+    let came = c.goes_on-else-exchange.result in
+    subst (λ (p : PipeNow). Goes d (Exchanging e) seats net (record d { down = p }) came seats net) (sym c.look_down.ensures.same) (still_on d e seats net came c.requires.placed k.conn (k.placed d seats) k.routed (k.told d d (Exchanging e) (still_same d (Exchanging e))))

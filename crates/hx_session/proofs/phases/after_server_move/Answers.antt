@@ -1,4 +1,4 @@
-use Rattle.std.proofs.Common.{◌≡◌, List, map, subst}
+use Rattle.std.proofs.Common.{◌≡◌, List, map, refl, subst, inl}
 use Rattle.hx_link.specs.Nets.{NetState}
 use Rattle.hx_pool.specs.SeatView.{History}
 use Rattle.hx_session.specs.declared.moves.Move.{Move}
@@ -10,6 +10,8 @@ use Rattle.hx_session.specs.Telling.{MoveTells}
 use Rattle.hx_session.proofs.OwnLemmas.{gateway_text}
 use Rattle.hx_session.proofs.StandingLemmas.{desk_none, place_in}
 use Rattle.hx_session.proofs.TellLemmas.{came_then, still_same}
+use Rattle.hx_connecting.specs.Journals.{room_of}
+use Rattle.hx_connecting.proofs.RoomLemmas.{rooms_none}
 use Rattle.hx_session.proofs.phases.after_server_move.Goals as goal
 
 idle_good : (m : Move) → m ≡ Idle → m ≡ Failed → ⊥
@@ -36,6 +38,7 @@ returns-in-Idle-clause-goes g c =
     record {
       placed = record { set = c.requires.set; good = c.requires.good (idle_good c.args.call.0 c.in-Idle.is) };
       keeps = place_in d d seats net (desk_none d);
+      touches = inl (refl, refl, refl, refl);
       routed = λ back r. r;
       told = still_same d (Exchanging (exchange_now c.args.exchange));
     }
@@ -48,6 +51,19 @@ returns-in-Waits-clause-goes g c =
     record {
       placed = record { set = c.requires.set; good = c.requires.good (waits_good c.args.call.0 c.in-Waits.is) };
       keeps = place_in d d seats net (desk_none d);
+      touches = inl (refl, refl, refl, refl);
       routed = λ back r. r;
       told = still_same d (Exchanging (exchange_now c.args.exchange));
     }
+
+pub returns-in-Bytes-clause-rooms : goal.returns-in-Bytes-clause-rooms
+returns-in-Bytes-clause-rooms g c = rooms_none g.S.HasHistory.history (room_of g.S.HasHistory.kept_from g.S.HasHistory.spare) c.args.seats.now
+
+pub returns-in-Ended-clause-rooms : goal.returns-in-Ended-clause-rooms
+returns-in-Ended-clause-rooms g c = rooms_none g.S.HasHistory.history (room_of g.S.HasHistory.kept_from g.S.HasHistory.spare) c.args.seats.now
+
+pub returns-in-Idle-clause-rooms : goal.returns-in-Idle-clause-rooms
+returns-in-Idle-clause-rooms g c = rooms_none g.S.HasHistory.history (room_of g.S.HasHistory.kept_from g.S.HasHistory.spare) c.args.seats.now
+
+pub returns-in-Waits-clause-rooms : goal.returns-in-Waits-clause-rooms
+returns-in-Waits-clause-rooms g c = rooms_none g.S.HasHistory.history (room_of g.S.HasHistory.kept_from g.S.HasHistory.spare) c.args.seats.now
