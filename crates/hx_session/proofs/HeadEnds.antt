@@ -1,17 +1,14 @@
 -- Where an answer ends that begins with interim heads.
-use Rattle.std.proofs.Common.{◌≡◌, ◌⊎◌, ℕ, ◌+◌, ◌-◌, ◌<◌, ◌≤◌, List, [], ◌∷◌, ◌++◌, length, take, drop, Ok, Err, refl, sym, ap, subst, ◌∙◌, inl, inr, append_assoc, arith, length-append, Option, Some, None, ⊎_elim}
-use Rattle.std.proofs.lemmas.List.{take-append-drop, length-take, length-drop}
+use Rattle.std.proofs.Common.{◌≡◌, ℕ, ◌+◌, ◌-◌, ◌≤◌, List, [], ◌∷◌, ◌++◌, length, take, drop, refl, sym, ap, subst, ◌∙◌, arith, length-append}
+use Rattle.std.proofs.lemmas.List.{take-append-drop}
 use Rattle.std.proofs.Math.Seq.{take-append-add, take-append_seam}
-use Rattle.httparse.specs.Grammar.{ResponseHead, ReadsResponse, print_response, status_code, HasNoResponse}
+use Rattle.httparse.specs.Grammar.{ResponseHead, ReadsResponse, print_response}
 use Rattle.httparse.proofs.GrammarLemmas.{response_unique, ReadsResponse-append}
 use Rattle.hx_message.specs.declared.MethodKind.{MethodKind}
-use Rattle.hx_message.specs.declared.BodyKind.{BodyKind}
-use Rattle.hx_message.specs.declared.BodyKind.TheVariants.{ToEnd}
-use Rattle.hx_message.specs.Body.{answer_kind}
 use Rattle.hx_message.specs.Forwarded.{BeginsInterims, IsInterim, IsFinal}
 use Rattle.hx_message.specs.Limits.{BeginsShortInterims, IsShort, IsShortAnswer}
 use Rattle.hx_message.specs.Message.{IsAnswerWith}
-use Rattle.hx_message.specs.Partial.{HasWholeAnswer, HasShortAnswer}
+use Rattle.hx_message.specs.Partial.{HasShortAnswer}
 use Rattle.hx_message.proofs.Unique.{interim_final}
 
 -- one interim head in front

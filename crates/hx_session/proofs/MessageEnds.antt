@@ -1,26 +1,26 @@
 -- Where a message ends of which a part is on its way.
-use Rattle.std.proofs.Common.{◌≡◌, ℕ, ◌+◌, ◌-◌, ◌<◌, ◌≤◌, Bool, List, [], ◌∷◌, ◌++◌, length, take, drop, Ok, refl, sym, ap, subst, ◌∙◌, inl, inr, append_assoc, arith, length-append, Option, Some, None, ⊎_elim}
-use Rattle.std.proofs.lemmas.List.{append-nil, take-append-drop, take-append-le, take_all, length-take, length-drop}
+use Rattle.std.proofs.Common.{◌≡◌, ℕ, ◌+◌, ◌<◌, ◌≤◌, Bool, List, [], ◌∷◌, ◌++◌, length, take, drop, Ok, refl, sym, ap, subst, ◌∙◌, inl, inr, append_assoc, arith, length-append, Some, None, ⊎_elim}
+use Rattle.std.proofs.lemmas.List.{append-nil, take-append-drop, take-append-le, take_all, length-take}
 use Rattle.std.proofs.lemmas.Bool.{cases_lt}
 use Rattle.std.proofs.Math.Seq.{take-append-add, take-append_seam}
 use Rattle.httparse.specs.Grammar.{RequestHead, ResponseHead, ReadsRequest, ReadsResponse}
-use Rattle.httparse.proofs.GrammarLemmas.{request_unique, response_unique, ReadsRequest-append, ReadsResponse-append}
+use Rattle.httparse.proofs.GrammarLemmas.{request_unique, ReadsRequest-append, ReadsResponse-append}
 use Rattle.hx_message.specs.declared.MethodKind.{MethodKind}
 use Rattle.hx_message.specs.declared.BodyKind.{BodyKind}
 use Rattle.hx_message.specs.declared.BodyKind.TheVariants.{Nothing, Length, Chunked, ToEnd}
 use Rattle.hx_message.specs.Body.{Framed, IsBody, kind_of_method, request_kind, answer_kind}
 use Rattle.hx_message.specs.Forwarded.{BeginsInterims, IsFinal}
-use Rattle.hx_message.specs.Limits.{BeginsShortInterims, IsShortAnswer}
+use Rattle.hx_message.specs.Limits.{IsShortAnswer}
 use Rattle.hx_message.specs.Message.{IsRequest, IsAnswerWith}
-use Rattle.hx_message.specs.Partial.{HasWholeRequest, HasWholeAnswer, HasShortAnswer}
+use Rattle.hx_message.specs.Partial.{HasWholeRequest, HasShortAnswer}
 use Rattle.hx_frame.specs.declared.meter.Meter.{Meter}
 use Rattle.hx_frame.specs.declared.progress.MeterState.{MeterState}
 use Rattle.hx_frame.specs.declared.progress.MeterState.TheVariants.{Going, Done, Bad}
-use Rattle.hx_frame.specs.Meters.{MeterFits, IsProperPart, NoBodyBegins, FeedSays, FeedEnds}
+use Rattle.hx_frame.specs.Meters.{MeterFits, IsProperPart, NoBodyBegins, FeedSays}
 use Rattle.hx_frame.proofs.EndLemmas.{one_body_end, one_request_end, interims_more, one_final_body}
 use Rattle.hx_session_parts.specs.OnWay.{IsAskOnWay, IsAnswerOnWay}
 use Rattle.hx_session_parts.proofs.OnWayLemmas.{short_more, begins_interims, short_interims_more}
-use Rattle.hx_session.specs.Cutting.{BreaksHere, EndsBodyIn, EndsAnswerIn, EndsAsk, EndsAnswerAt}
+use Rattle.hx_session.specs.Cutting.{BreaksHere, EndsBodyIn, EndsAsk}
 
 -- a body behind which more bytes belong to a body runs to the end
 proper_none : (kind : BodyKind) (front more : List ℕ) → IsBody kind front → IsBody kind (front ++ more) → 0 < length more → kind ≡ ToEnd

@@ -1,5 +1,5 @@
 -- What a call in an exchange tells where nothing is moved on its links.
-use Rattle.std.proofs.Common.{◌≡◌, ℕ, Bool, refl, sym, ap, subst, ◌∙◌, [], List}
+use Rattle.std.proofs.Common.{◌≡◌, ℕ, Bool, refl, ap, List}
 use Rattle.hx_link.specs.declared.answers.Got.TheVariants as got
 use Rattle.hx_link.specs.declared.answers.Put.TheVariants as put
 use Rattle.hx_link.specs.Links.{LinkReads, LinkWrites}
@@ -13,7 +13,7 @@ use Rattle.hx_session.specs.declared.exchange.AskWay.{AskWay}
 use Rattle.hx_session.specs.Desks.{DeskNow}
 use Rattle.hx_session.specs.Exchanged.{ExchangeNow}
 use Rattle.hx_session.specs.Stages.{Exchanging}
-use Rattle.hx_session.specs.Telling.{CarriesSame, IsSameExchange, IsStillTold, TellsNone}
+use Rattle.hx_session.specs.Telling.{CarriesSame, IsSameExchange, IsStillTold}
 use Rattle.hx_session.proofs.TellLemmas.{link_same}
 
 -- a call that moved nothing, on the connection of the exchange

@@ -1,6 +1,6 @@
 -- A part of a step behind another, and behind a call of a link.
-use Rattle.std.proofs.Common.{◌≡◌, ◌≤◌, ◌+◌, ℕ, Bool, List, [], refl, sym, ap, subst, ◌∙◌, inl, inr, arith, Option, Some, None}
-use Rattle.std.specs.Prelude.{IfSome, Contains, ⊤}
+use Rattle.std.proofs.Common.{◌≡◌, ℕ, List, refl, sym, ap, subst, ◌∙◌, inl, inr, arith, Option, Some}
+use Rattle.std.specs.Prelude.{IfSome, Contains}
 use Rattle.hx_base.specs.declared.numbers.ServerNo.{ServerNo}
 use Rattle.hx_base.specs.declared.numbers.SessionNo.{SessionNo}
 use Rattle.hx_base.specs.declared.numbers.ThreadNo.{ThreadNo}
@@ -14,7 +14,7 @@ use Rattle.hx_connecting.specs.Choosing.{servers_of}
 use Rattle.hx_connecting.specs.Closing.{HasHeld}
 use Rattle.hx_connecting.specs.Sessions as seen
 use Rattle.hx_session.specs.declared.stage.Came.{Came}
-use Rattle.hx_session.specs.declared.stage.Came.TheVariants.{On, Moved, Ends}
+use Rattle.hx_session.specs.declared.stage.Came.TheVariants.{Moved}
 use Rattle.hx_session.specs.declared.stage.Stage.{Stage}
 use Rattle.hx_session.specs.declared.step.Waiting.{Waiting}
 use Rattle.hx_session.specs.Carried.{IsCarried}
@@ -23,19 +23,18 @@ use Rattle.hx_session.specs.Moves.{GivesClient, ReadsClient}
 use Rattle.hx_session.specs.Still.{WantsClient}
 use Rattle.hx_session.proofs.ReadLemmas.{gives_keep, gives_stand, reads_keep, reads_stand}
 use Rattle.hx_session.specs.Desks.{DeskNow, IsDesk}
-use Rattle.hx_session.specs.Ending.{HasOwn, AnswersOwn, GaveNothing}
+use Rattle.hx_session.specs.Ending.{HasOwn, AnswersOwn}
 use Rattle.hx_session.specs.Exchanged.{ExchangeNow}
-use Rattle.hx_session.specs.Fits.{GoesTo}
 use Rattle.hx_session.specs.Parting.{PartTouches, came_conn}
 use Rattle.hx_connecting.specs.Touched.{AllStand}
 use Rattle.hx_connecting.proofs.AddingLemmas.{holds_stand}
 use Rattle.hx_session.proofs.PartingLemmas.{part_from, parted, parted_from, parted_none, counts_same, stage_part}
 use Rattle.hx_session.specs.Seen.{conn_seen}
-use Rattle.hx_session.specs.Stages.{StageNow, Reading, Choosing, Exchanging, Answering, Left, StandsSo, IsBetween, own_stage, stage_now}
-use Rattle.hx_session.specs.Standing.{CamePlaced, CameRouted, Goes, ComesTo, IsNumbered, IsSet, IsPlaced, KeepsDesk, KeepsAsk, KeepsPlace, KeepsOver, IsSameConn, IsRoutedTo, server_of}
+use Rattle.hx_session.specs.Stages.{StageNow, Exchanging, StandsSo, IsBetween, own_stage, stage_now}
+use Rattle.hx_session.specs.Standing.{CamePlaced, CameRouted, Goes, ComesTo, IsNumbered, IsSet, IsPlaced, KeepsDesk, KeepsAsk, KeepsPlace, KeepsOver, IsSameConn, IsRoutedTo}
 use Rattle.hx_session.specs.Telling.{CameTells, IsStillTold, TellsMoved}
 use Rattle.hx_session.proofs.TellLemmas.{came_then}
-use Rattle.hx_session.proofs.StandingLemmas.{place_in, place_then, desk_none, answers_keep, answers_set, placed_on, set_on}
+use Rattle.hx_session.proofs.StandingLemmas.{place_in, place_then, desk_none, answers_keep, answers_set, placed_on}
 
 -- the same stage at a desk whose client's link made a call
 pub set_desk : (d d' : DeskNow) (s : StageNow) (seats : List History) → IsSet d s seats → KeepsAsk d d' → StandsSo d' s → IsSet d' s seats

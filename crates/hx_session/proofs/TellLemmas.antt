@@ -1,42 +1,36 @@
 -- What a step tells, from what its parts tell.
-use Rattle.std.proofs.Common.{◌≡◌, ◌≤◌, ◌+◌, ◌-◌, ℕ, Bool, true, false, List, [], ◌++◌, length, refl, sym, ap, subst, ◌∙◌, inl, inr, arith, Option, Some, None, ⊎_elim}
-use Rattle.std.specs.Prelude.{IfSome, ◌⊎◌, ⊤, if◌then◌else◌}
+use Rattle.std.proofs.Common.{◌≡◌, ◌≤◌, ◌+◌, ℕ, Bool, true, false, List, [], ◌++◌, length, refl, sym, ap, subst, ◌∙◌, inl, inr, arith, Option, Some, None, ⊎_elim}
+use Rattle.std.specs.Prelude.{IfSome, if◌then◌else◌}
 use Rattle.std.proofs.lemmas.List.{append-nil}
-use Rattle.hx_base.specs.declared.what.What.{What}
-use Rattle.hx_base.specs.Spans.{bytes_in}
 use Rattle.hx_config.specs.declared.parts.Server.{Server}
-use Rattle.hx_conn.specs.Conns.{RestedNow, BusyNow}
+use Rattle.hx_conn.specs.Conns.{RestedNow}
 use Rattle.hx_conn.specs.WhatTold as whats
 use Rattle.hx_conn.specs.WhatTold.{what_of_link}
 use Rattle.hx_link.specs.Links.{LinkFinishes}
 use Rattle.hx_link.specs.Told.{LinkState}
 use Rattle.hx_message.specs.OwnAnswer.{IsOwnAnswer}
 use Rattle.hx_pool.specs.SeatView.{History}
-use Rattle.hx_record.specs.Carriage.{Carriage}
 use Rattle.hx_record.specs.Truth.{RecountsBytes, LeftBeforeAll}
 use Rattle.hx_record.specs.declared.served.Kind.{Kind}
 use Rattle.hx_record.specs.declared.served.Kind.TheVariants as kind
 use Rattle.hx_record.specs.declared.served.CutCause.{CutCause}
-use Rattle.hx_record.specs.declared.served.CutCause.TheVariants as cut
-use Rattle.hx_record.specs.declared.served.Left.{Left as Leave}
 use Rattle.hx_record.specs.declared.served.LeftCause.{LeftCause}
 use Rattle.hx_record.specs.declared.served.LeftCause.TheVariants as cause
 use Rattle.hx_record.specs.declared.served.Served.{Served}
-use Rattle.hx_session.specs.declared.exchange.AnswerWay.{AnswerWay}
 use Rattle.hx_session.specs.declared.moves.Move.{Move}
 use Rattle.hx_session.specs.declared.moves.Move.TheVariants.{Idle, Bytes, Waits, Ended, Failed}
 use Rattle.hx_session.specs.declared.stage.Came.{Came}
 use Rattle.hx_session.specs.declared.stage.Came.TheVariants.{On, Moved, Ends}
 use Rattle.hx_session.specs.Beginning.{ChoosesIn}
-use Rattle.hx_session.specs.Desks.{DeskNow, IsDesk, emptied}
+use Rattle.hx_session.specs.Desks.{DeskNow, emptied}
 use Rattle.hx_session.specs.Ending.{AnswersOwn, CutsOff}
 use Rattle.hx_session.specs.Exchanged.{ExchangeNow}
 use Rattle.hx_session.specs.Moves.{GivesClient, ReadsClient, with_client}
-use Rattle.hx_session.specs.Over.{IsTold, carried_by, carried_of, closing_of, served_of, after_record}
-use Rattle.hx_session.specs.Records.{IsOfExchange, WhereTold, cut_ends, ends_after, no_carriage}
+use Rattle.hx_session.specs.Over.{IsTold, carried_by, closing_of, served_of, after_record}
+use Rattle.hx_session.specs.Records.{WhereTold, cut_ends, ends_after, no_carriage}
 use Rattle.hx_session.specs.Stages.{StageNow, ChoosingNow, AnsweringNow, Reading, Choosing, Exchanging, Answering, Left, own_stage, stage_now, IsAnswering}
 use Rattle.hx_session.specs.Since.{HasSince}
-use Rattle.hx_session.specs.Telling.{CarriesSame, IsSameExchange, IsSameStage, TellsNone, IsStillTold, MoveTells, TellsOne, IsToldOwn, IsOfStage, LeavesWith, LeavesPlainly, LeavesOwn, finished_for, TellsMoved, TellsEnd, CameTells, GivesPassed}
+use Rattle.hx_session.specs.Telling.{CarriesSame, IsSameExchange, IsSameStage, TellsNone, IsStillTold, TellsOne, IsToldOwn, IsOfStage, LeavesWith, LeavesPlainly, LeavesOwn, finished_for, TellsMoved, TellsEnd, CameTells, GivesPassed}
 use Rattle.hx_session.proofs.PassedLemmas.{in_middle, lies_in}
 
 pub link_same : (l : LinkState) → CarriesSame l l

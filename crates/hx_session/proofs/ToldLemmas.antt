@@ -1,6 +1,6 @@
 -- What a worker learns of the records and the end that a step or a stop gives.
-use Rattle.std.proofs.Common.{◌≡◌, ◌≤◌, ◌+◌, ◌-◌, ℕ, Bool, true, false, List, refl, sym, ap, subst, ◌∙◌, inl, inr, arith, Option, Some, None, ⊎_elim}
-use Rattle.std.specs.Prelude.{IfSome, IsSome, ◌⊎◌, ⊤}
+use Rattle.std.proofs.Common.{◌≡◌, ◌≤◌, ◌-◌, ℕ, false, List, refl, sym, ap, subst, ◌∙◌, inl, inr, arith, Option, Some, None}
+use Rattle.std.specs.Prelude.{IfSome}
 use Rattle.hx_conn.specs.Conns.{RestedNow}
 use Rattle.hx_connecting.specs.Around.{resting}
 use Rattle.hx_connecting.specs.Sessions.{SessionNow}
@@ -8,8 +8,6 @@ use Rattle.hx_link.specs.Told.{LinkState}
 use Rattle.hx_pool.specs.SeatView.{History}
 use Rattle.hx_record.specs.declared.served.Kind.{Kind}
 use Rattle.hx_record.specs.declared.served.Kind.TheVariants as kind
-use Rattle.hx_record.specs.declared.served.CutCause.{CutCause}
-use Rattle.hx_record.specs.declared.served.CutCause.TheVariants as cut
 use Rattle.hx_record.specs.declared.served.Left.{Left as Leave}
 use Rattle.hx_record.specs.declared.served.LeftCause.{LeftCause}
 use Rattle.hx_record.specs.declared.served.LeftCause.TheVariants as cause
@@ -23,7 +21,7 @@ use Rattle.hx_session.specs.Seen.{conn_seen, over_seen, own_seen, session_seen}
 use Rattle.hx_session.specs.Stages.{StageNow, Reading, Choosing, Exchanging, Answering, Left, IsAnswering, own_stage}
 use Rattle.hx_session.specs.Standing.{IsDone, IsGone, IsSound}
 use Rattle.hx_session.specs.Stopping.{ServesAtStop, StopsKind}
-use Rattle.hx_session.specs.Telling.{CarriesSame, TellsNone, TellsOne, IsToldOwn, IsOfStage, LeavesWith, TellsMoved, TellsEnd, DoneTells, StopsStage, HasNoRequest, StopTells, KindTold, RecordTold, RecordsTold, LeavesWithout, StepTold, StopTold, finished_by, stopped}
+use Rattle.hx_session.specs.Telling.{CarriesSame, TellsOne, IsToldOwn, IsOfStage, LeavesWith, DoneTells, StopsStage, StopTells, KindTold, RecordTold, RecordsTold, LeavesWithout, StepTold, StopTold, finished_by, stopped}
 use Rattle.hx_session.proofs.RecordLemmas.{told_stands}
 use Rattle.hx_session.proofs.TellLemmas.{link_same, link_then, own_of, told_on, own_on, plain_finish, reading_none, choosing_none, left_none}
 

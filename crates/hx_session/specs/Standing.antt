@@ -1,5 +1,5 @@
 -- How a session stands with its worker's seats and net, and what each part of a step keeps of that.
-use Rattle.std.specs.Prelude.{◌≡◌, ◌≢◌, ℕ, ◌+◌, ◌≤◌, false, List, Option, Some, None, ⊤}
+use Rattle.std.specs.Prelude.{◌≡◌, ◌≢◌, ◌+◌, ◌≤◌, false, List, Option, Some, None, ⊤}
 use Rattle.hx_base.specs.declared.numbers.ServerNo.{ServerNo}
 use Rattle.hx_config.specs.declared.parts.Back.{Back}
 use Rattle.hx_conn.specs.Conns.{RestedNow}

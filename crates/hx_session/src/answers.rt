@@ -3,6 +3,7 @@
 ghost use Rattle.std.specs.Prelude.{◌≡◌, ◌⊎◌, ◌↔◌, ◌+◌, ◌≤◌, ◌||◌, ◌&&◌, not, IsTrue, List, map, Option, None};
 ghost use Rattle.httparse.specs.Grammar as grammar;
 ghost use Rattle.hx_config.specs.declared.parts.Back.{Back};
+ghost use Rattle.hx_link.specs.Links.{LinkFinishes};
 ghost use Rattle.hx_message.specs.declared.BodyKind.TheVariants.{ToEnd};
 ghost use Rattle.hx_frame.specs.declared.progress.MeterState.TheVariants.{Going};
 ghost use Rattle.hx_pool.specs.SeatView.{History};
@@ -459,6 +460,13 @@ fn finish<L: Link, S: Seat<Rested<L>>, N: Net<L = L>>(
     after_pass(desk, closing, held, waits, served)
 }
 
+/// Nothing more is written to the client.
+fn finish_client<L: Link>(client: &mut L)
+    ensures finishes { LinkFinishes (L.state client.old) (L.state client.new) }
+{
+    client.finish();
+}
+
 /// The session reads the next request, or leaves.
 fn after_pass<L: Link>(
     desk: &mut Desk<L>,
@@ -477,7 +485,7 @@ fn after_pass<L: Link>(
         → CameTells d (Exchanging e) (desk_now L.state desk.new) result }
 {
     if closing {
-        desk.client.finish();
+        finish_client(&mut desk.client);
         leave_after(LeftCause::Closing, held, served)
     } else {
         Came::Moved(Stage::Reading(held), waits, Some(served))

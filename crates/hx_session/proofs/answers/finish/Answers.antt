@@ -1,4 +1,4 @@
-use Rattle.std.proofs.Common.{◌≡◌, ◌∙◌, List, map, sym, ap, inr}
+use Rattle.std.proofs.Common.{◌∙◌, List, map, sym, ap, inr}
 use Rattle.hx_link.specs.Nets.{NetState}
 use Rattle.hx_pool.specs.SeatView.{History}
 use Rattle.hx_session.specs.declared.exchange.AnswerWay.{AnswerWay}

@@ -1,10 +1,10 @@
-use Rattle.std.proofs.Common.{◌≡◌, List, map, sym, ap, subst}
+use Rattle.std.proofs.Common.{List, map, sym, subst}
 use Rattle.hx_link.specs.Nets.{NetState}
 use Rattle.hx_link.specs.Pipes.{PipeNow}
 use Rattle.hx_pool.specs.SeatView.{History}
 use Rattle.hx_session.specs.Desks.{desk_now, DeskNow}
 use Rattle.hx_session.specs.Exchanged.{exchange_now, ExchangeNow}
-use Rattle.hx_session.specs.Stages.{StageNow, Exchanging}
+use Rattle.hx_session.specs.Stages.{Exchanging}
 use Rattle.hx_session.specs.Standing.{Goes, KeepsAsk}
 use Rattle.hx_session.specs.Telling.{IsStillTold}
 use Rattle.hx_connecting.specs.Journals.{room_of}

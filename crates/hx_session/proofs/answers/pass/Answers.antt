@@ -1,6 +1,5 @@
-use Rattle.std.proofs.Common.{◌≡◌, ◌+◌, ℕ, List, map, drop, length, sym, ap, subst, ◌∙◌, Some}
+use Rattle.std.proofs.Common.{◌≡◌, ℕ, List, map, drop, length, sym, ap, subst, ◌∙◌, Some}
 use Rattle.hx_base.specs.declared.numbers.SessionNo.{SessionNo}
-use Rattle.hx_base.specs.declared.numbers.ServerNo.{ServerNo}
 use Rattle.hx_conn.specs.Conns.{BusyNow}
 use Rattle.hx_link.specs.Pipes.{PipeNow, pipe}
 use Rattle.hx_pool.specs.SeatView.{History}
@@ -10,7 +9,6 @@ use Rattle.hx_connecting.specs.Sessions.{Exchanging}
 use Rattle.hx_connecting.proofs.BusyLemmas.{around_busy}
 use Rattle.hx_session.specs.Desks.{desk_now, DeskNow}
 use Rattle.hx_session.specs.Exchanged.{exchange_now, ExchangeNow}
-use Rattle.hx_session.specs.Over.{after_record}
 use Rattle.hx_session.proofs.RestLemmas.{rest_ready, passed_placed, passed_keeps, rests_to}
 use Rattle.hx_connecting.specs.Adding.{RestTouches}
 use Rattle.hx_connecting.proofs.AddedCalls.{rests_touches}

@@ -1,4 +1,4 @@
-use Rattle.std.proofs.Common.{◌≡◌, List, map, inr, subst, Option, Bool, refl}
+use Rattle.std.proofs.Common.{List, map, inr, subst, Option, Bool}
 use Rattle.std.specs.Prelude.{Contains, IfSome}
 use Rattle.hx_base.specs.declared.numbers.ServerNo.{ServerNo}
 use Rattle.hx_pool.specs.SeatView.{History}

@@ -1,4 +1,4 @@
-use Rattle.std.proofs.Common.{◌≡◌, ◌<◌, ℕ, length, map, subst, Option}
+use Rattle.std.proofs.Common.{◌<◌, ℕ, length, map, subst, Option}
 use Rattle.std.specs.Prelude.{IfSome, Contains}
 use Rattle.hx_base.specs.declared.numbers.ServerNo.{ServerNo}
 use Rattle.hx_connecting.specs.Choosing.{servers_of}

@@ -1,4 +1,4 @@
-use Rattle.std.proofs.Common.{◌≡◌, List, map, refl, sym, ap, subst, inr, Some}
+use Rattle.std.proofs.Common.{List, map, refl, sym, ap, subst, inr, Some}
 use Rattle.hx_pool.specs.SeatView.{History}
 use Rattle.hx_connecting.specs.Touches.{Ends as Closes}
 use Rattle.hx_connecting.proofs.AddedCalls.{had, busy_touches}

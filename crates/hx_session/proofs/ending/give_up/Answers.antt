@@ -1,5 +1,4 @@
-use Rattle.std.proofs.Common.{◌≡◌, ◌≤◌, ℕ, List, map, sym, subst, inr, arith, Some, None}
-use Rattle.hx_conn.specs.Conns.{RestedNow}
+use Rattle.std.proofs.Common.{List, map, sym, subst, inr, arith, Some, None}
 use Rattle.hx_pool.specs.SeatView.{History}
 use Rattle.hx_connecting.specs.Touches.{Ends as Closes}
 use Rattle.hx_connecting.proofs.AddedCalls.{had, busy_touches}

@@ -1,4 +1,4 @@
-use Rattle.std.proofs.Common.{◌≤◌, ◌+◌, List, refl, inl, arith}
+use Rattle.std.proofs.Common.{refl, inl, arith}
 use Rattle.hx_session.specs.Desks.{desk_now, DeskNow}
 use Rattle.hx_session.specs.Stages.{own_stage}
 use Rattle.hx_session.proofs.StandingLemmas.{goes_ends, own_leaves, own_keeps, place_in}

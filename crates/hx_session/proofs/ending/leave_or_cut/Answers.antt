@@ -1,4 +1,4 @@
-use Rattle.std.proofs.Common.{◌≡◌, List, map, refl, sym, ap, subst, inl, inr}
+use Rattle.std.proofs.Common.{List, map, refl, sym, ap, subst, inl, inr}
 use Rattle.hx_pool.specs.SeatView.{History}
 use Rattle.hx_connecting.specs.Journals.{room_of}
 use Rattle.hx_connecting.proofs.RoomLemmas.{rooms_none}

@@ -11,7 +11,6 @@ use Rattle.hx_session.proofs.StandingLemmas.{place_then}
 use Rattle.hx_session.proofs.PartLemmas.{place_turn, over_then}
 use Rattle.hx_session.proofs.StepLemmas.{abouts_count}
 use Rattle.hx_connecting.specs.Journals.{room_of}
-use Rattle.hx_connecting.specs.Rooms.{RoomsStay}
 use Rattle.hx_connecting.proofs.AddingLemmas.{holds_stand}
 use Rattle.hx_connecting.proofs.RoomLemmas.{rooms_both}
 use Rattle.hx_session.specs.Stages.{StageNow, stage_now}

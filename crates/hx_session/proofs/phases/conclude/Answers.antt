@@ -1,4 +1,4 @@
-use Rattle.std.proofs.Common.{◌≡◌, sym, subst}
+use Rattle.std.proofs.Common.{sym, subst}
 use Rattle.hx_session.specs.Stages.{StageNow}
 use Rattle.hx_session.specs.Standing.{IsRoutedTo}
 use Rattle.std.proofs.Common.{List, map}

@@ -1,4 +1,4 @@
-use Rattle.std.proofs.Common.{◌≡◌, sym, ap, subst, Some, List, map}
+use Rattle.std.proofs.Common.{sym, ap, subst, Some, List, map}
 use Rattle.hx_link.specs.Told.{LinkState}
 use Rattle.hx_record.specs.declared.served.Left.{Left}
 use Rattle.hx_session.specs.Desks.{desk_now, DeskNow}

@@ -1,4 +1,4 @@
-use Rattle.std.proofs.Common.{◌≡◌, List, map, refl, sym, ap, subst, inl}
+use Rattle.std.proofs.Common.{List, map, refl, sym, ap, subst, inl}
 use Rattle.hx_link.specs.Nets.{NetState}
 use Rattle.hx_pool.specs.SeatView.{History}
 use Rattle.hx_session.specs.Desks.{desk_now, DeskNow}

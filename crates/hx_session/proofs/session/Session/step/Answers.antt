@@ -1,6 +1,5 @@
-use Rattle.std.proofs.Common.{◌≡◌, ◌∙◌, ℕ, List, length, map, refl, sym, ap, subst, true, None}
+use Rattle.std.proofs.Common.{◌∙◌, ℕ, List, length, map, refl, sym, ap, subst, true, None}
 use Rattle.std.proofs.lemmas.List.{length-map}
-use Rattle.hx_base.specs.declared.numbers.ThreadNo.{ThreadNo}
 use Rattle.hx_config.specs.declared.config.Config.{Config}
 use Rattle.hx_config.specs.declared.parts.Back.{Back}
 use Rattle.hx_config.specs.Limits.{all_servers}
@@ -19,7 +18,7 @@ use Rattle.hx_session.proofs.StepLemmas.{Enters, enters, goes_on_here, serves_on
 use Rattle.hx_session.specs.Seen.{session_seen}
 use Rattle.hx_session.specs.Telling.{DoneTells, StepTold}
 use Rattle.hx_session.proofs.ToldLemmas.{sound_one, step_told}
-use Rattle.hx_connecting.specs.Journals.{JournalRoom, room_of}
+use Rattle.hx_connecting.specs.Journals.{room_of}
 use Rattle.hx_connecting.proofs.AddingLemmas.{nothing, adds_no_touch, holds_stand}
 use Rattle.hx_connecting.proofs.RoomLemmas.{rooms_none, rooms_stay}
 use Rattle.hx_session.specs.Marking.{AddsMarks}

@@ -1,4 +1,4 @@
-use Rattle.std.proofs.Common.{◌≡◌, ◌∙◌, List, map, sym, ap, subst}
+use Rattle.std.proofs.Common.{◌∙◌, List, map, sym, ap, subst}
 use Rattle.hx_config.specs.Limits.{all_servers}
 use Rattle.hx_pool.specs.SeatView.{History}
 use Rattle.hx_connecting.specs.Holds.{HoldsAt}
