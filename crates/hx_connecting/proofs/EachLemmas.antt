@@ -1,20 +1,19 @@
 -- The marks of a call, seat by seat.
-use Rattle.std.proofs.Common.{◌≡◌, ℕ, zero, suc, ◌+◌, ◌≤◌, Bool, true, false, eqb, List, [], ◌∷◌, ◌++◌, refl, sym, ap, subst, ◌∙◌, inl, inr, arith, Option, Some, None, ⊎_elim, eq-eqb}
-use Rattle.std.specs.Prelude.{if◌then◌else◌, ◌==◌, ⊤}
+use Rattle.std.proofs.Common.{◌≡◌, ℕ, zero, suc, ◌+◌, ◌≤◌, Bool, true, false, eqb, List, [], ◌∷◌, ◌++◌, refl, sym, ap, subst, arith, Option, Some, None, eq-eqb}
+use Rattle.std.specs.Prelude.{if◌then◌else◌}
 use Rattle.std.specs.List.{slice_get, slice_set}
 use Rattle.std.proofs.lemmas.List.{append-nil}
-use Rattle.std.proofs.lemmas.Bool.{eqb-true, eqb-false}
+use Rattle.std.proofs.lemmas.Bool.{eqb-true}
 use Rattle.hx_base.specs.declared.numbers.ThreadNo.{ThreadNo}
 use Rattle.hx_base.specs.declared.numbers.SessionNo.{SessionNo}
-use Rattle.hx_base.specs.declared.numbers.ServerNo.{ServerNo}
 use Rattle.hx_config.specs.declared.parts.Server.{Server}
 use Rattle.hx_pool.specs.declared.entries.Entry.{Entry}
 use Rattle.hx_pool.specs.declared.entries.Note.{Note}
-use Rattle.hx_pool.specs.SeatView.{History, Makes, Calls, StandsInOneHistory}
+use Rattle.hx_pool.specs.SeatView.{History, StandsInOneHistory}
 use Rattle.hx_pool.specs.Opening.{ReadsGate}
-use Rattle.hx_connecting.specs.Touches.{Touch, touch_marks, marks_at, AddsEach, HasMarks, Adds, Balances}
+use Rattle.hx_connecting.specs.Touches.{Touch, touch_marks, marks_at, AddsEach, HasMarks, Balances}
 use Rattle.hx_connecting.specs.Choice.{AskedAll}
-use Rattle.hx_connecting.specs.Touched.{Marked, SeatMarks, marks_for, AllStand, EachMarks, AddsSome}
+use Rattle.hx_connecting.specs.Touched.{SeatMarks, AllStand, EachMarks, AddsSome}
 use Rattle.hx_connecting.proofs.TouchLemmas.{seat_both, marked_none, marked_gate}
 
 some_is : {A : Type 0} (x y : A) → Some x ≡ Some y → x ≡ y
@@ -90,10 +89,10 @@ add_each t n first x i (h ∷ olds) (k ∷ news) e =
     let m = e.0.marked in
     (es ∷ rest.0, (e.0.makes.makes, record { marks = m.marks; own = m.own; balances = subst (λ (l : List Note). Balances 0 0 l) (append-nil es) (m.keeps 0 [] (λ c. refl)) }, rest.1))
 
-here : (t : ThreadNo) (n : SessionNo) (first : Bool) (x : Touch) → touch_marks t n first x ≡ marks_at t n first (Some x) x.server.0
+pub here : (t : ThreadNo) (n : SessionNo) (first : Bool) (x : Touch) → touch_marks t n first x ≡ marks_at t n first (Some x) x.server.0
 here t n first x = sym (ap (λ (b : Bool). if b then touch_marks t n first x else []) (eq-eqb x.server.0 x.server.0 refl))
 
-not_here : (t : ThreadNo) (n : SessionNo) (first : Bool) (x : Touch) (k : ℕ) → (k ≡ x.server.0 → ⊥) → marks_at t n first (Some x) k ≡ []
+pub not_here : (t : ThreadNo) (n : SessionNo) (first : Bool) (x : Touch) (k : ℕ) → (k ≡ x.server.0 → ⊥) → marks_at t n first (Some x) k ≡ []
 not_here t n first x k ne = by_test (eqb x.server.0 k) refl
   where
     by_test : (b : Bool) → eqb x.server.0 k ≡ b → (if b then touch_marks t n first x else []) ≡ []

@@ -7,6 +7,10 @@ pub mod WantLemmas
 pub mod WayLemmas
 pub mod TouchLemmas
 pub mod EachLemmas
+pub mod AddingLemmas
+pub mod AddedCalls
+pub mod WantedLemmas
+pub mod RoomLemmas
 pub mod ParkLemmas
 pub mod HoldLemmas
 pub mod BusyLemmas

@@ -1,33 +1,29 @@
 -- A connection that a step opened was wanted.
-use Rattle.std.proofs.Common.{◌≡◌, ◌≢◌, ◌⊎◌, ℕ, ◌<◌, ◌≤◌, eqb, Bool, true, false, cond, List, [], ◌∷◌, ◌++◌, refl, sym, ap, subst, ◌∙◌, inl, inr, append_assoc, Ok, arith, eq-eqb}
-use Rattle.std.proofs.lemmas.List.{append-nil, append_cancel_left, append_cancel_right}
-use Rattle.std.proofs.lemmas.Bool.{eqb-true, eqb-false}
+use Rattle.std.proofs.Common.{◌≡◌, ◌⊎◌, ℕ, ◌<◌, ◌≤◌, eqb, Bool, true, false, cond, List, [], ◌∷◌, ◌++◌, refl, sym, ap, subst, ◌∙◌, inl, inr, append_assoc, Ok, eq-eqb}
+use Rattle.std.proofs.lemmas.List.{append-nil, append_cancel_right}
 use Rattle.hx_base.specs.declared.numbers.ThreadNo.{ThreadNo}
 use Rattle.hx_base.specs.declared.numbers.SessionNo.{SessionNo}
 use Rattle.hx_base.specs.declared.numbers.ConnId.{ConnId}
-use Rattle.hx_base.specs.declared.numbers.Face.{Face}
-use Rattle.hx_base.specs.declared.rules.Mode.{Mode}
 use Rattle.hx_pool.specs.declared.entries.Found.{Found}
 use Rattle.hx_pool.specs.declared.entries.Entry.{Entry}
 use Rattle.hx_pool.specs.declared.entries.Entry.TheVariants.{Open, Park, Take, Free, Close, Look, Up, Down, Count, Gate, SetGate, Round}
 use Rattle.hx_pool.specs.declared.entries.Note.{Note}
-use Rattle.hx_pool.specs.declared.refusals.NoneOver.{NoneOver}
 use Rattle.hx_pool.specs.declared.refusals.NoneOver.TheVariants.{NotAllowed, BelowLow, NoneSeen}
 use Rattle.hx_pool.specs.Table.{empty_table}
-use Rattle.hx_pool.specs.History.{plain, thread_of, own_of, is_by, table_after, EachStep, MeetsNeeds, IsLegal}
-use Rattle.hx_pool.specs.SeatView.{About, History, Makes, Calls, StandsInOneHistory}
+use Rattle.hx_pool.specs.History.{plain, thread_of, own_of, EachStep, MeetsNeeds, IsLegal}
+use Rattle.hx_pool.specs.SeatView.{About, History, Makes}
 use Rattle.hx_pool.specs.Rules.{allows}
 use Rattle.hx_base.specs.declared.numbers.PlaceNo.{PlaceNo}
 use Rattle.hx_pool.specs.declared.entries.Found.TheVariants.{Resting}
 use Rattle.hx_pool.specs.Causes.{AllLooks, Among, IsUnavailableTo, place_of}
 use Rattle.hx_pool.specs.Opening.{Opens}
 use Rattle.hx_pool.specs.Taking.{TakesNoneOwn, NoneRestsIn}
-use Rattle.hx_pool.specs.Takeover.{RefusesTakeover, AllowsNone, AllowsSome, OthersUnavailable, counted}
-use Rattle.hx_pool.specs.Wants.{WantsNewConn, ShowsFew, ShowsEnough}
+use Rattle.hx_pool.specs.Takeover.{AllowsNone, AllowsSome, OthersUnavailable, counted}
+use Rattle.hx_pool.specs.Wants.{ShowsFew, ShowsEnough}
 use Rattle.hx_pool.proofs.Histories.{own_of-append, EachStep-second, EachStep-first}
 use Rattle.hx_pool.proofs.Holding.{split_own, gained}
 use Rattle.hx_pool.proofs.Calls.{makes_both}
-use Rattle.hx_pool.proofs.Purges.{among_left, among_right}
+use Rattle.hx_pool.proofs.Purges.{among_right}
 use Rattle.hx_pool.proofs.Rows.{ParksElsewhere, AllElsewhere, none_stays}
 use Rattle.hx_connecting.specs.Connecting.{FindsNone}
 use Rattle.hx_connecting.specs.Wanted.{OpensWanted}
@@ -125,7 +121,7 @@ open_seen b c n id opens =
     let cut = split_own b.about.thread m.seen.0 x [] (gained b c (x ∷ []) m) in
     (b.seen ++ cut.0, cut.1, m.seen.1 ∙ ap (λ (l : List Note). b.seen ++ l) cut.2 ∙ sym (append_assoc b.seen cut.0 (x ∷ cut.1)))
 
-lift : (may : ℕ → Bool) (t : ThreadNo) (es fs : List Note) (at : PlaceNo) → ((x : Found) → Among (λ e. e ≡ Look t at x) es → Among (λ e. e ≡ Look t at x) fs) → IsUnavailableTo may t es at → IsUnavailableTo may t fs at
+pub lift : (may : ℕ → Bool) (t : ThreadNo) (es fs : List Note) (at : PlaceNo) → ((x : Found) → Among (λ e. e ≡ Look t at x) es → Among (λ e. e ≡ Look t at x) fs) → IsUnavailableTo may t es at → IsUnavailableTo may t fs at
 lift may t es fs at into (inl (found, never, a)) = inl (found, never, into found a)
 lift may t es fs at into (inr (f, g, apart, a, b)) = inr (f, g, apart, into (Resting f) a, into (Resting g) b)
 

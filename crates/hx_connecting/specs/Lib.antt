@@ -6,6 +6,8 @@ pub mod Closings
 pub mod Choosing
 pub mod Holds
 pub mod Journals
+pub mod Rooms
+pub mod Adding
 pub mod Choice
 pub mod Connecting
 pub mod Closing

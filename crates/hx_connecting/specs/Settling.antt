@@ -1,9 +1,9 @@
 -- What becomes of a connection whose exchange passed.
-use Rattle.std.specs.Prelude.{◌≡◌, ◌≢◌, ◌⊎◌, ℕ, List, Option, Some, None, slice_get, slice_set}
+use Rattle.std.specs.Prelude.{◌≡◌, ◌≢◌, ◌⊎◌, List, Option, Some, None, slice_get, slice_set}
 use Rattle.hx_base.specs.declared.numbers.PlaceNo.{PlaceNo}
 use Rattle.hx_base.specs.declared.numbers.SessionNo.{SessionNo}
 use Rattle.hx_base.specs.declared.rules.Mode.TheVariants.{Never}
-use Rattle.hx_conn.specs.Conns.{RestedNow, BusyNow, IsRested}
+use Rattle.hx_conn.specs.Conns.{RestedNow, BusyNow, IsRested, IsBusy}
 use Rattle.hx_conn.specs.Steps.{refusal, rested_of}
 use Rattle.hx_conn.specs.declared.causes.RestCause.{RestCause}
 use Rattle.hx_conn.specs.WhatTold.{shown}
@@ -43,4 +43,4 @@ pub record Settles (olds news : List History) (n : SessionNo) (r : RestedNow) (n
 abbrev pub RestsAs : List History → List History → SessionNo → BusyNow → NetState → NetState → Option RestedNow → Type 0
 RestsAs olds news n b net net' result =
     ((between : NetState) × OnlyFaults net between × (refusal b ≡ None) × Settles olds news n (rested_of b) between net' result)
-    ⊎ ((why : RestCause) × (refusal b ≡ Some why) × (result ≡ None) × ClosesAt olds news b.server.0 n b.id net net' b.link)
+    ⊎ ((why : RestCause) × (refusal b ≡ Some why) × (result ≡ None) × ClosesAt olds news b.server.0 n b.id net net' b.link × IsBusy b)

@@ -2,6 +2,8 @@
 
 ghost use Rattle.std.specs.Prelude.{◌≡◌, ◌<◌, ◌≤◌, ◌+◌, [], ◌∷◌, length, map, nat_lt, if◌then◌else◌};
 ghost use Rattle.hx_connecting.specs.Choice.{AskedAll, Chooses, HaveSeats};
+ghost use Rattle.hx_connecting.specs.Journals.{room_of};
+ghost use Rattle.hx_connecting.specs.Rooms.{RoomsStay};
 
 use hx_base::ServerNo;
 use hx_config::Server;
@@ -22,6 +24,7 @@ fn ask_seat<L: Link, S: Seat<Rested<L>>>(seats: &mut [S], server: &Server) -> bo
     requires { server.now.no.0 < length seats.old }
     ensures asked { AskedAll (server.now ∷ []) result (map S.history seats.old) (map S.history seats.new) }
     ensures count { length seats.new ≡ length seats.old }
+    ensures rooms { RoomsStay S.history (room_of S.kept_from S.spare) seats.old seats.new }
 {
     let seat = &mut seats[server.no.0 as usize];
     seat.ready()
@@ -36,7 +39,8 @@ pub fn choose<L: Link, S: Seat<Rested<L>>>(
     requires few { length servers.now ≤ 32 }
     requires turn { turn.old < length servers.now }
     requires seats { HaveSeats servers.now (length seats.old) }
-    ensures { Chooses servers.now turn.old turn.new (map S.history seats.old) (map S.history seats.new) result }
+    ensures chooses { Chooses servers.now turn.old turn.new (map S.history seats.old) (map S.history seats.new) result }
+    ensures rooms { RoomsStay S.history (room_of S.kept_from S.spare) seats.old seats.new }
 {
     let mut at = *turn as usize;
     for count in 0..servers.len() {

@@ -8,6 +8,8 @@ ghost use Rattle.hx_connecting.specs.Connecting.{Finds, Dies, BeginsProbed, Trie
 ghost use Rattle.hx_connecting.specs.Connecting.{TriesFor};
 ghost use Rattle.hx_connecting.specs.Closing.{HoldsTo, ConnectsTo, HasBegun, BeginsNew};
 ghost use Rattle.hx_connecting.specs.Around.{AreNumbered, HasAround, abouts, resting};
+ghost use Rattle.hx_connecting.specs.Journals.{room_of};
+ghost use Rattle.hx_connecting.specs.Rooms.{RoomStays, RoomsStay};
 ghost use Rattle.hx_connecting.specs.Touched.{conn_after};
 
 use crate::closing::close;
@@ -51,6 +53,7 @@ fn take<L: Link, S: Seat<Rested<L>>>(seat: &mut S, want: Want) -> Option<Rested<
     requires session { want.n.0 ≢ 0 }
     ensures finds { Finds (S.history seat.old) (S.history seat.new) want.n want.first result }
     ensures has { IfSome result (λ r. HasConn (S.history seat.new) want.n r.id) }
+    ensures room { RoomStays S.history (room_of S.kept_from S.spare) seat.old seat.new }
 {
     if !may_share(seat.rules().mode, want.first) {
         return None;
@@ -72,8 +75,9 @@ fn begin_rested<L: Link, S: Seat<Rested<L>>, N: Net<L = L>>(
     rested: Rested<L>,
 ) -> Connected<L>
     requires has { HasConn (S.history seat.old) want.n rested.id }
-    ensures { TriesRested (S.history seat.old) (S.history seat.new) want.n rested want.now.0 want.method
+    ensures tries { TriesRested (S.history seat.old) (S.history seat.new) want.n rested want.now.0 want.method
         (N.state net.old) (N.state net.new) result }
+    ensures room { RoomStays S.history (room_of S.kept_from S.spare) seat.old seat.new }
 {
     match begin(net, rested, want.method, want.now) {
         Ok(busy) => Connected::Begun { busy, fresh: false },
@@ -108,8 +112,9 @@ fn open<L: Link, S: Seat<Rested<L>>, N: Net<L = L>>(
     address: &Address,
 ) -> Connected<L>
     requires session { want.n.0 ≢ 0 }
-    ensures { TriesNew (S.history seat.old) (S.history seat.new) want.n want.server want.method
+    ensures tries { TriesNew (S.history seat.old) (S.history seat.new) want.n want.server want.method
         (N.state net.old) (N.state net.new) result }
+    ensures room { RoomStays S.history (room_of S.kept_from S.spare) seat.old seat.new }
 {
     let Ok(id) = seat.open_new(want.n) else {
         return Connected::Refused;
@@ -135,8 +140,9 @@ fn take_or_open<L: Link, S: Seat<Rested<L>>, N: Net<L = L>>(
     address: &Address,
 ) -> Connected<L>
     requires session { want.n.0 ≢ 0 }
-    ensures { Connects (S.history seat.old) (S.history seat.new) want.n want.first want.server want.now.0 want.method
+    ensures tries { Connects (S.history seat.old) (S.history seat.new) want.n want.first want.server want.now.0 want.method
         (N.state net.old) (N.state net.new) result }
+    ensures room { RoomStays S.history (room_of S.kept_from S.spare) seat.old seat.new }
 {
     match take(seat, want) {
         Some(rested) => begin_rested(seat, net, want, rested),
@@ -154,8 +160,9 @@ fn connect_at<L: Link, S: Seat<Rested<L>>, N: Net<L = L>>(
 ) -> Connected<L>
     requires session { want.n.0 ≢ 0 }
     requires has { IfSome held (λ r. HasConn (S.history seat.old) want.n r.id) }
-    ensures { TriesFor (S.history seat.old) (S.history seat.new) want.n want.first want.server want.now.0 want.method
+    ensures tries { TriesFor (S.history seat.old) (S.history seat.new) want.n want.first want.server want.now.0 want.method
         (N.state net.old) (N.state net.new) held result }
+    ensures room { RoomStays S.history (room_of S.kept_from S.spare) seat.old seat.new }
 {
     match held {
         Some(rested) => begin_rested(seat, net, want, rested),
@@ -184,6 +191,7 @@ pub fn connect<L: Link, S: Seat<Rested<L>>, N: Net<L = L>>(
     ensures own { HasBegun (map S.history seats.new) want.n want.server result }
     ensures abouts { abouts (map S.history seats.new) ≡ abouts (map S.history seats.old) }
     ensures loop_ { (N.state net.new).loop_no ≡ (N.state net.old).loop_no }
+    ensures rooms { RoomsStay S.history (room_of S.kept_from S.spare) seats.old seats.new }
 {
     let server = want.server;
     let seat = &mut seats[server.0 as usize];

@@ -6,6 +6,8 @@ ghost use Rattle.hx_conn.specs.Steps.{rested_of};
 ghost use Rattle.hx_base.specs.declared.numbers.ThreadNo.{ThreadNo};
 ghost use Rattle.hx_connecting.specs.Around.{HasAround, abouts, resting};
 ghost use Rattle.hx_connecting.specs.Closing.{AtSeat, HasHeld};
+ghost use Rattle.hx_connecting.specs.Journals.{room_of};
+ghost use Rattle.hx_connecting.specs.Rooms.{RoomStays, RoomsStay};
 ghost use Rattle.hx_connecting.specs.Sessions.{Exchanging};
 ghost use Rattle.hx_pool.specs.SeatView.{StandsInOneHistory};
 ghost use Rattle.hx_pool.specs.Opening.{HasConn};
@@ -28,6 +30,7 @@ fn settle<L: Link, S: Seat<Rested<L>>, N: Net<L = L>>(
     requires may { AtSeat (map S.history seats.old) rested.server.0 (λ h. MaySettle n rested h) }
     ensures settles { Settles (map S.history seats.old) (map S.history seats.new) n rested (N.state net.old) (N.state net.new) result }
     ensures loop_ { (N.state net.new).loop_no ≡ (N.state net.old).loop_no }
+    ensures rooms { RoomsStay S.history (room_of S.kept_from S.spare) seats.old seats.new }
 {
     let server = rested.server();
     let seat = &mut seats[server.0 as usize];
@@ -43,6 +46,7 @@ fn settle_at<L: Link, S: Seat<Rested<L>>, N: Net<L = L>>(
 ) -> Option<Rested<L>>
     requires may { MaySettle n rested (S.history seat.old) }
     ensures settles { SettlesAs (S.history seat.old) (S.history seat.new) n rested (N.state net.old) (N.state net.new) result }
+    ensures room { RoomStays S.history (room_of S.kept_from S.spare) seat.old seat.new }
 {
     if is_never(seat.rules().mode) {
         return Some(rested);
@@ -77,6 +81,7 @@ pub fn rest<L: Link, S: Seat<Rested<L>>, N: Net<L = L>>(
     ensures own { HasHeld (map S.history seats.new) n result }
     ensures abouts { abouts (map S.history seats.new) ≡ abouts (map S.history seats.old) }
     ensures loop_ { (N.state net.new).loop_no ≡ (N.state net.old).loop_no }
+    ensures rooms { RoomsStay S.history (room_of S.kept_from S.spare) seats.old seats.new }
     ensures rests { RestsAs (map S.history seats.old) (map S.history seats.new) n busy (N.state net.old) (N.state net.new) result }
 {
     match busy.rest(net) {

@@ -1,5 +1,4 @@
 -- A step that is over.
-use Rattle.std.proofs.Common.{◌≡◌, ℕ}
 use Rattle.hx_record.specs.declared.served.CutCause.{CutCause}
 use Rattle.hx_session.specs.declared.stage.Came.{Came}
 use Rattle.hx_session.specs.declared.stage.Came.TheVariants.{On, Moved, Ends}

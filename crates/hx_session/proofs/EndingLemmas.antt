@@ -1,16 +1,15 @@
 -- A passed exchange whose connection may rest has all its bytes in exchanges.
-use Rattle.std.proofs.Common.{◌≡◌, ℕ, ◌+◌, ◌-◌, ◌≤◌, ◌<◌, Bool, true, false, not, List, [], ◌∷◌, length, take, drop, refl, sym, ap, subst, ◌∙◌, inl, inr, arith, Option, Some, None, ⊎_elim}
-use Rattle.std.specs.Prelude.{IfSome, nat_lt, is_none, ◌==◌, if◌then◌else◌, ◌⊎◌}
-use Rattle.std.proofs.lemmas.Bool.{ltb-true, ltb-false}
+use Rattle.std.proofs.Common.{◌≡◌, ℕ, ◌+◌, ◌-◌, ◌≤◌, Bool, true, false, not, List, [], ◌∷◌, length, take, drop, refl, sym, ap, subst, ◌∙◌, inr, arith, Option, Some, None}
+use Rattle.std.specs.Prelude.{IfSome, nat_lt, is_none, ◌==◌, if◌then◌else◌}
+use Rattle.std.proofs.lemmas.Bool.{ltb-false}
 use Rattle.hx_base.specs.Spans.{bytes_in}
 use Rattle.hx_base.specs.declared.numbers.Span.{Span}
 use Rattle.hx_message.specs.declared.MethodKind.{MethodKind}
-use Rattle.hx_base.specs.declared.what.LinkTold.{LinkTold}
 use Rattle.hx_conn.specs.WhatTold as whats
 use Rattle.hx_conn.specs.WhatTold.{what_of_link}
 use Rattle.hx_conn.specs.Conns.{BusyNow, IsBusy, answered}
 use Rattle.hx_conn.specs.Steps.{refusal, rested_of}
-use Rattle.hx_conn.specs.Causes.{has_leftover, is_persistent, first_of, causes}
+use Rattle.hx_conn.specs.Causes.{has_leftover, is_persistent, first_of}
 use Rattle.hx_conn.specs.declared.causes.RestCause.{RestCause}
 use Rattle.hx_conn.specs.declared.causes.RestCause.TheVariants.{AskOpen, AnswerOpen, Leftover, NoPersistence, UsesSpent, Faulted}
 use Rattle.hx_conn.specs.declared.exchange.AnswerEnd.{AnswerEnd}

@@ -1,30 +1,28 @@
 -- What a step of a session asks of its worker, as the parts of the step need it.
-use Rattle.std.proofs.Common.{◌≡◌, ◌≢◌, ◌≤◌, ◌<◌, ◌+◌, ℕ, zero, suc, Bool, true, false, ◌&&◌, not, eqb, List, [], ◌∷◌, ◌++◌, length, map, get_or, refl, sym, ap, subst, ◌∙◌, inl, inr, arith, Option, Some, None, ⊎_elim, ◌⊎◌}
-use Rattle.std.specs.Prelude.{IfSome, Contains, ⊤, ◌==◌}
-use Rattle.std.specs.List.{slice_get, flat_map, list_all}
+use Rattle.std.proofs.Common.{◌≡◌, ◌≤◌, ◌<◌, ◌+◌, ℕ, zero, suc, Bool, true, false, ◌&&◌, not, List, [], ◌∷◌, ◌++◌, length, map, get_or, refl, sym, ap, subst, ◌∙◌, arith, Option, Some, None, ⊎_elim, ◌⊎◌}
+use Rattle.std.specs.Prelude.{IfSome, Contains, ◌==◌}
+use Rattle.std.specs.List.{slice_get}
 use Rattle.std.proofs.lemmas.Bool.{eqb-true}
 use Rattle.hx_base.specs.declared.numbers.ServerNo.{ServerNo}
 use Rattle.hx_base.specs.declared.numbers.SessionNo.{SessionNo}
 use Rattle.hx_base.specs.declared.numbers.ThreadNo.{ThreadNo}
-use Rattle.hx_base.specs.declared.numbers.ConnId.{ConnId}
 use Rattle.hx_base.specs.declared.rules.PoolRules.{PoolRules}
-use Rattle.hx_base.specs.declared.rules.Mode.TheVariants.{Never}
 use Rattle.hx_config.specs.declared.parts.Back.{Back}
 use Rattle.hx_config.specs.declared.parts.Front.{Front}
 use Rattle.hx_config.specs.declared.parts.Server.{Server}
 use Rattle.hx_config.specs.Limits.{all_servers, are_numbered, are_served, serves}
 use Rattle.std.proofs.lemmas.List.{length-append}
 use Rattle.hx_config.specs.Meaning.{Meaning}
-use Rattle.hx_conn.specs.Conns.{RestedNow, BusyNow}
+use Rattle.hx_conn.specs.Conns.{RestedNow}
 use Rattle.hx_pool.specs.Opening.{HasConn}
-use Rattle.hx_pool.specs.SeatView.{About, History, StandsInOneHistory}
+use Rattle.hx_pool.specs.SeatView.{About, History}
 use Rattle.hx_pool.specs.Table.{face_of}
 use Rattle.hx_pool.proofs.Owning.{just_has}
 use Rattle.hx_connecting.specs.Around.{ConnOnLoop, AreNumbered, RestsAtNever, HasAround, abouts, resting}
 use Rattle.hx_connecting.specs.Choice.{HaveSeats}
 use Rattle.hx_connecting.specs.Choosing.{servers_of}
 use Rattle.hx_connecting.specs.Closing.{AtSeat, HasHeld}
-use Rattle.hx_connecting.specs.Holds.{HasJust, HoldsConn}
+use Rattle.hx_connecting.specs.Holds.{HoldsConn}
 use Rattle.hx_connecting.specs.Sessions as seen
 use Rattle.hx_connecting.proofs.AroundLemmas.{just_here, one_here}
 use Rattle.hx_session.specs.Desks.{DeskNow}

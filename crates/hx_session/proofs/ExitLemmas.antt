@@ -1,6 +1,6 @@
 -- What a step of a session leaves to its worker.
-use Rattle.std.proofs.Common.{◌≡◌, ◌≢◌, ◌<◌, ℕ, zero, suc, Bool, true, false, eqb, List, [], ◌∷◌, length, refl, sym, ap, subst, ◌∙◌, inl, inr, arith, Option, Some, None, ⊎_elim, ◌⊎◌}
-use Rattle.std.specs.Prelude.{IfSome, Contains, ⊤}
+use Rattle.std.proofs.Common.{◌≡◌, ◌<◌, ℕ, zero, suc, true, false, List, [], ◌∷◌, length, refl, sym, ap, subst, ◌∙◌, inl, inr, arith, Option, Some, None, ⊎_elim, ◌⊎◌}
+use Rattle.std.specs.Prelude.{IfSome, Contains}
 use Rattle.std.specs.List.{slice_get, slice_set}
 use Rattle.hx_base.specs.declared.numbers.ServerNo.{ServerNo}
 use Rattle.hx_config.specs.declared.parts.Back.{Back}
@@ -8,19 +8,17 @@ use Rattle.hx_config.specs.declared.parts.Front.{Front}
 use Rattle.hx_config.specs.Limits.{all_servers}
 use Rattle.hx_config.specs.Meaning.{Meaning}
 use Rattle.hx_conn.specs.Conns.{RestedNow}
-use Rattle.hx_link.specs.Told.{LinkState}
 use Rattle.hx_pool.specs.SeatView.{History}
 use Rattle.hx_record.specs.declared.served.Left.{Left as Leave}
-use Rattle.hx_connecting.specs.Around.{HasAround, resting}
 use Rattle.hx_connecting.specs.Choosing.{servers_of}
 use Rattle.hx_connecting.specs.Holds.{HoldsConn}
 use Rattle.hx_session.specs.declared.step.Waits.{Waits}
 use Rattle.hx_session.specs.declared.step.Waits.TheVariants as waits
 use Rattle.hx_session.specs.Desks.{DeskNow}
-use Rattle.hx_session.specs.Fits.{SeatsServe, RestsUnderNever, GoesTo, IsRouted, IsGoing, TurnsFit}
+use Rattle.hx_session.specs.Fits.{SeatsServe, GoesTo, IsGoing, TurnsFit}
 use Rattle.hx_session.specs.Seen.{conn_seen, chosen_seen, unless_held, over_seen, session_seen}
 use Rattle.hx_session.specs.Stages.{StageNow, Reading, Choosing, Exchanging, Answering, Left}
-use Rattle.hx_session.specs.Standing.{IsSound, IsPlaced, IsRoutedTo, IsDone, server_of}
+use Rattle.hx_session.specs.Standing.{IsSound, IsPlaced, IsRoutedTo, IsDone}
 use Rattle.hx_session.proofs.EntryLemmas.{never_back}
 
 -- between its calls

@@ -1,25 +1,19 @@
 -- How an exchange begins on a connection, and how one that passed ends.
-use Rattle.std.proofs.Common.{◌≡◌, ◌≤◌, ◌+◌, ℕ, Bool, true, false, not, ◌&&◌, List, [], ◌++◌, length, take, drop, refl, sym, ap, subst, ◌∙◌, inl, inr, append_assoc, arith, Option, Some, None}
+use Rattle.std.proofs.Common.{◌≡◌, ◌+◌, ℕ, Bool, true, false, not, ◌&&◌, List, [], ◌++◌, length, take, drop, refl, sym, ap, subst, ◌∙◌, arith, Option, Some, None}
 use Rattle.std.specs.Prelude.{IfSome, Contains}
-use Rattle.std.specs.List.{flat_map}
-use Rattle.std.proofs.lemmas.List.{append-nil, length-append, take-append-drop, length-take}
+use Rattle.std.proofs.lemmas.List.{append-nil, length-append, take-append-drop}
 use Rattle.std.proofs.Math.Seq.{drop-append_seam, take-append_seam}
-use Rattle.httparse.specs.Grammar.{RequestHead, ResponseHead}
-use Rattle.hx_base.specs.declared.numbers.ServerNo.{ServerNo}
 use Rattle.hx_frame.specs.declared.meter.Meter.{Meter}
 use Rattle.hx_frame.specs.Meters.{HasUsed}
-use Rattle.hx_message.specs.declared.BodyKind.TheVariants.{ToEnd}
-use Rattle.hx_message.specs.declared.MethodKind.{MethodKind}
-use Rattle.hx_message.specs.Body.{kind_of_method}
 use Rattle.hx_message.specs.Forwarded.{forwarded_request}
-use Rattle.hx_message.specs.Message.{IsAnswerWith, IsWholeAnswer, Persists}
-use Rattle.hx_link.specs.Told.{LinkState, IsCounted}
+use Rattle.hx_message.specs.Message.{IsWholeAnswer, Persists}
+use Rattle.hx_link.specs.Told.{IsCounted}
 use Rattle.hx_link.specs.Pipes.{PipeNow, pipe}
 use Rattle.hx_conn.specs.declared.exchange.Exchange.{Exchange}
 use Rattle.hx_conn.specs.Conns.{BusyNow}
 use Rattle.hx_conn.specs.Steps.{AnswerIsWhole, new_exchange}
 use Rattle.hx_session_parts.specs.declared.asks.Asked.{Asked}
-use Rattle.hx_session_parts.specs.Asks.{IsAskOf, IsAsked, SpellsAsk}
+use Rattle.hx_session_parts.specs.Asks.{IsAsked, SpellsAsk}
 use Rattle.hx_session_parts.specs.OnWay.{AreInterimsOnWay}
 use Rattle.hx_session_parts.proofs.OnWayLemmas.{ask_begins}
 use Rattle.hx_session.specs.declared.exchange.AnswerWay.{AnswerWay}
@@ -35,12 +29,12 @@ use Rattle.hx_config.specs.declared.parts.Back.{Back}
 use Rattle.hx_connecting.specs.Choosing.{servers_of}
 use Rattle.hx_session.specs.Beginning.{BeginsOn, BeginsExchange, ConnectedAt}
 use Rattle.hx_session.specs.Carried.{IsCarried}
-use Rattle.hx_session.specs.Desks.{DeskNow, IsDesk}
+use Rattle.hx_session.specs.Desks.{DeskNow}
 use Rattle.hx_session.specs.Exchanged.{ExchangeNow}
 use Rattle.hx_session.specs.Over.{IsOver}
 use Rattle.hx_session.specs.Since.{HasSince}
 use Rattle.hx_session.specs.Stages.{IsBetween}
-use Rattle.hx_session.specs.Answering.{IsBodyCarried, CarriesAnswer}
+use Rattle.hx_session.specs.Answering.{CarriesAnswer}
 use Rattle.hx_session.proofs.PassedLemmas.{body_of, whole_way}
 
 -- what was taken since, where it is told

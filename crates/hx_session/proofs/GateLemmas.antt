@@ -1,8 +1,8 @@
 -- A session whose server is chosen: the gates that were read change nothing of what it has.
-use Rattle.std.proofs.Common.{◌≡◌, ◌≢◌, ◌≤◌, ◌<◌, ◌+◌, ℕ, zero, suc, Bool, true, false, not, List, [], ◌∷◌, ◌++◌, length, map, get_or, refl, sym, ap, subst, ◌∙◌, arith, Option, Some, None}
-use Rattle.std.specs.Prelude.{IfSome, Contains, ⊤, nat_lt, if◌then◌else◌}
+use Rattle.std.proofs.Common.{◌≡◌, ◌<◌, ◌+◌, ℕ, zero, suc, Bool, true, false, not, List, [], ◌∷◌, length, map, refl, sym, ap, subst, ◌∙◌, arith, Option, Some, None}
+use Rattle.std.specs.Prelude.{IfSome, Contains, nat_lt, if◌then◌else◌}
 use Rattle.std.specs.List.{slice_get, slice_set}
-use Rattle.std.proofs.lemmas.Bool.{ltb-true, ltb-false}
+use Rattle.std.proofs.lemmas.Bool.{ltb-true}
 use Rattle.hx_base.specs.declared.numbers.ServerNo.{ServerNo}
 use Rattle.hx_base.specs.declared.numbers.SessionNo.{SessionNo}
 use Rattle.hx_base.specs.declared.numbers.ThreadNo.{ThreadNo}
@@ -16,19 +16,16 @@ use Rattle.hx_pool.specs.Opening.{ReadsGate}
 use Rattle.hx_pool.specs.SeatView.{About, History}
 use Rattle.hx_pool.proofs.HeldCalls.{held_apart}
 use Rattle.hx_session_parts.specs.Asks.{IsAsked}
-use Rattle.hx_connecting.specs.Around.{AreNumbered, RestsAtNever, HasAround, abouts, resting}
-use Rattle.hx_connecting.specs.Choice.{AskedAll, Chooses, ChoosesReady, ChoosesNone, next_turn}
+use Rattle.hx_connecting.specs.Around.{RestsAtNever, HasAround, abouts, resting}
+use Rattle.hx_connecting.specs.Choice.{AskedAll, Chooses, next_turn}
 use Rattle.hx_connecting.specs.Choosing.{servers_of}
 use Rattle.hx_connecting.specs.Closing.{AtSeat, HasHeld}
-use Rattle.hx_connecting.specs.Holds.{HasJust, HoldsConn, conn_at}
+use Rattle.hx_connecting.specs.Holds.{HasJust, conn_at}
 use Rattle.hx_connecting.specs.Sessions as seen
 use Rattle.hx_connecting.proofs.AroundLemmas.{holds_here, holds_set, numbered_set, abouts_set}
-use Rattle.hx_session.specs.Beginning.{ChoosesServer, ChoosesFor, ChoosesIn}
+use Rattle.hx_session.specs.Beginning.{ChoosesServer, ChoosesIn}
 use Rattle.hx_session.specs.Desks.{DeskNow}
-use Rattle.hx_session.specs.Ending.{HasOwn}
-use Rattle.hx_session.specs.Fits.{GoesTo}
-use Rattle.hx_session.specs.Seen.{conn_seen}
-use Rattle.hx_session.specs.Stages.{StageNow, ChoosingNow, Reading, Choosing, Exchanging, Answering, Left}
+use Rattle.hx_session.specs.Stages.{StageNow, Reading, Choosing, Exchanging, Answering, Left}
 use Rattle.hx_session.specs.Standing.{IsPlaced, IsRoutedTo, GoesToHeld}
 use Rattle.hx_session.proofs.EntryLemmas.{conn_own, below}
 

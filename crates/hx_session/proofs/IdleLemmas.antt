@@ -1,22 +1,18 @@
 -- A session that didn't move stands.
-use Rattle.std.proofs.Common.{◌≡◌, ℕ, ◌+◌, ◌<◌, Bool, true, false, List, [], ◌∷◌, ◌++◌, length, drop, refl, sym, ap, subst, ◌∙◌, inl, inr, arith, Option, Some, None, ⊎_elim}
-use Rattle.std.specs.Prelude.{IfSome, ◌⊎◌}
-use Rattle.std.proofs.lemmas.List.{length-append}
+use Rattle.std.proofs.Common.{◌≡◌, ℕ, ◌<◌, Bool, true, false, List, [], ◌∷◌, ◌++◌, length, drop, refl, sym, ap, subst, ◌∙◌, inl, inr, arith, Option, Some, None, ⊎_elim}
+use Rattle.std.specs.Prelude.{IfSome}
 use Rattle.hx_conn.specs.Conns.{RestedNow}
 use Rattle.hx_link.specs.Told.{LinkState}
 use Rattle.hx_session_parts.specs.Asks.{AskLooks}
-use Rattle.hx_session_parts.specs.Answers.{AnswerLooks}
 use Rattle.hx_session_parts.specs.declared.asks.AskLook.TheVariants as ask
-use Rattle.hx_session_parts.specs.declared.answers.AnswerLook.TheVariants as answer
 use Rattle.hx_session.specs.Bad.{WantsMore}
 use Rattle.hx_session.specs.Since.{HasSince}
 use Rattle.hx_session.specs.Desks.{DeskNow, IsDesk}
 use Rattle.hx_session.specs.Exchanged.{ExchangeNow}
 use Rattle.hx_session.specs.Stages.{StageNow, IsBetween, Reading, Exchanging}
 use Rattle.hx_session.specs.Still.{ReadWaited, WriteWaited, CannotRead}
-use Rattle.hx_session.specs.Standstill.{Stands, StandsWith, StandsIdle, ReadWaits, WriteWaits}
+use Rattle.hx_session.specs.Standstill.{Stands, StandsWith, StandsIdle, ReadWaits}
 use Rattle.hx_connecting.specs.Around.{resting}
-use Rattle.hx_connecting.specs.Sessions as seen
 use Rattle.hx_session.specs.Seen.{session_seen}
 use Rattle.hx_session.specs.Waiting.{CannotReadServer, AnswerAtHand}
 

@@ -1,21 +1,18 @@
 -- Where a session stands after a read of its client, and what each call of the client's link keeps.
-use Rattle.std.proofs.Common.{◌≡◌, ◌≤◌, ◌+◌, ℕ, Bool, true, false, List, [], ◌++◌, length, take, refl, sym, ap, subst, ◌∙◌, append_assoc, arith, Option, Some, None}
-use Rattle.std.specs.Prelude.{IfSome, ⊤}
-use Rattle.std.proofs.lemmas.List.{append-nil, take_all, length-append}
+use Rattle.std.proofs.Common.{◌≡◌, ◌≤◌, ◌+◌, ℕ, true, List, [], ◌++◌, length, sym, ap, subst, append_assoc, arith}
+use Rattle.std.proofs.lemmas.List.{take_all}
 use Rattle.hx_link.specs.declared.answers.Got.TheVariants as got
 use Rattle.hx_link.specs.declared.answers.Put.TheVariants as put
-use Rattle.hx_link.specs.Told.{LinkState, IsCounted}
+use Rattle.hx_link.specs.Told.{LinkState}
 use Rattle.hx_link.specs.Links.{LinkReads, LinkWrites}
-use Rattle.hx_link.specs.Pipes.{PipeNow, pipe}
+use Rattle.hx_link.specs.Pipes.{pipe}
 use Rattle.hx_session.specs.declared.moves.Move.{Move}
 use Rattle.hx_session.specs.declared.moves.Move.TheVariants.{Idle, Bytes, Waits, Ended, Failed}
 use Rattle.hx_session.specs.Since.{HasSince}
 use Rattle.hx_session.specs.Desks.{DeskNow, IsDesk}
-use Rattle.hx_session.specs.Moves.{with_client, GivesClient, GivesSome, ReadsClient, TakesSome}
-use Rattle.hx_session.specs.Exchanged.{ExchangeNow}
-use Rattle.hx_session.specs.Carried.{IsCarried}
-use Rattle.hx_session.specs.Stages.{StageNow, Reading, Choosing, Exchanging, Answering, Left, StandsSo, IsBetween, IsAnswering}
-use Rattle.hx_session.specs.Standing.{KeepsWho, KeepsDesk, KeepsAsk}
+use Rattle.hx_session.specs.Moves.{with_client, GivesClient, ReadsClient}
+use Rattle.hx_session.specs.Stages.{StageNow, Reading, Choosing, Exchanging, Answering, Left, StandsSo}
+use Rattle.hx_session.specs.Standing.{KeepsAsk}
 use Rattle.hx_session.specs.Still.{WantsClient}
 use Rattle.hx_session.proofs.SinceLemmas.{since_same, reads_since, read_sends}
 use Rattle.hx_session.proofs.StandLemmas.{SameBytes, stands_same, stands_waiting, stands_idle, stands_given}

@@ -1,19 +1,16 @@
 -- A connection whose exchange passed may rest, and the session is between two requests.
-use Rattle.std.proofs.Common.{◌≡◌, ◌≢◌, ◌≤◌, ◌+◌, ◌-◌, ℕ, Bool, true, false, List, [], ◌∷◌, ◌++◌, length, take, drop, refl, sym, ap, subst, ◌∙◌, arith, Option, Some, None, ⊎_elim}
+use Rattle.std.proofs.Common.{◌≡◌, ◌≢◌, ◌≤◌, ◌+◌, ◌-◌, ℕ, Bool, List, [], ◌∷◌, ◌++◌, length, drop, refl, sym, ap, subst, ◌∙◌, arith, Option, Some, None, ⊎_elim}
 use Rattle.std.specs.Prelude.{Contains}
-use Rattle.std.specs.List.{slice_get}
 use Rattle.std.proofs.lemmas.List.{length-append}
 use Rattle.httparse.specs.Ascii.{space}
 use Rattle.httparse.specs.Grammar.{RequestHead, print_request, print_blank, print_version, print_end, print_section}
 use Rattle.hx_base.specs.declared.numbers.ServerNo.{ServerNo}
 use Rattle.hx_base.specs.declared.numbers.SessionNo.{SessionNo}
 use Rattle.hx_base.specs.declared.numbers.ThreadNo.{ThreadNo}
-use Rattle.hx_base.specs.declared.rules.Mode.TheVariants.{Never}
 use Rattle.hx_config.specs.declared.parts.Back.{Back}
 use Rattle.hx_conn.specs.Conns.{RestedNow, BusyNow}
 use Rattle.hx_link.specs.Nets.{NetState}
 use Rattle.hx_conn.specs.Steps.{rested_of, answer_ended}
-use Rattle.hx_conn.specs.WhatTold.{shown}
 use Rattle.hx_link.specs.Pipes.{PipeNow, pipe}
 use Rattle.hx_message.specs.Forwarded.{BeginsRequest}
 use Rattle.hx_pool.specs.Held.{Has}

@@ -1,37 +1,37 @@
 -- How a session stands after a part of a step.
-use Rattle.std.proofs.Common.{◌≡◌, ◌≢◌, ◌≤◌, ◌+◌, ℕ, Bool, true, false, List, [], ◌∷◌, ◌++◌, length, refl, sym, ap, subst, ◌∙◌, inl, inr, arith, Option, Some, None}
-use Rattle.std.specs.Prelude.{IfSome, Contains, ⊤}
+use Rattle.std.proofs.Common.{◌≡◌, ◌≤◌, ℕ, List, [], ◌∷◌, length, refl, sym, ap, subst, ◌∙◌, arith, Option, Some, None}
+use Rattle.std.specs.Prelude.{IfSome, Contains}
 use Rattle.hx_base.specs.declared.numbers.ServerNo.{ServerNo}
 use Rattle.hx_base.specs.declared.numbers.SessionNo.{SessionNo}
 use Rattle.hx_base.specs.declared.numbers.ThreadNo.{ThreadNo}
 use Rattle.hx_base.specs.declared.numbers.ConnId.{ConnId}
 use Rattle.hx_config.specs.declared.parts.Back.{Back}
-use Rattle.hx_conn.specs.Conns.{RestedNow, BusyNow}
+use Rattle.hx_conn.specs.Conns.{RestedNow}
 use Rattle.hx_link.specs.Nets.{NetState}
-use Rattle.hx_link.specs.Pipes.{PipeNow, pipe}
-use Rattle.hx_link.specs.Told.{LinkState}
 use Rattle.hx_pool.specs.Opening.{HasConn}
 use Rattle.hx_pool.specs.SeatView.{History}
 use Rattle.hx_record.specs.declared.served.CutCause.{CutCause}
 use Rattle.hx_record.specs.declared.served.Served.{Served}
 use Rattle.hx_session_parts.specs.Asks.{IsAsked}
-use Rattle.hx_connecting.specs.Around.{HasAround, abouts, resting}
+use Rattle.hx_connecting.specs.Around.{HasAround, resting}
 use Rattle.hx_connecting.specs.Choosing.{servers_of}
 use Rattle.hx_connecting.specs.Closing.{AtSeat, HasHeld}
 use Rattle.hx_connecting.specs.Sessions as seen
 use Rattle.hx_connecting.proofs.BusyLemmas.{around_busy}
 use Rattle.hx_session.specs.Carried.{IsCarried}
 use Rattle.hx_session.specs.Desks.{DeskNow, IsDesk, emptied}
-use Rattle.hx_session.specs.Ending.{HasOwn, GaveNothing, AnswersOwn, CutsOff}
+use Rattle.hx_session.specs.Ending.{GaveNothing, AnswersOwn, CutsOff}
 use Rattle.hx_session.specs.Exchanged.{ExchangeNow}
 use Rattle.hx_session.specs.Fits.{GoesTo}
 use Rattle.hx_session.specs.Over.{after_record}
+use Rattle.hx_session.specs.Parting.{PartTouches}
 use Rattle.hx_session.specs.Since.{HasSince}
-use Rattle.hx_session.specs.Stages.{own_stage, StageNow, ChoosingNow, Reading, Choosing, Exchanging, Answering, Left, StandsSo, IsBetween, IsAnswering}
+use Rattle.hx_session.specs.Stages.{own_stage, StageNow, ChoosingNow, Reading, Choosing, Exchanging, Answering, IsBetween}
 use Rattle.hx_session.specs.declared.stage.Came.{Came}
-use Rattle.hx_session.specs.declared.stage.Came.TheVariants.{On, Moved, Ends}
+use Rattle.hx_session.specs.declared.stage.Came.TheVariants.{Ends}
 use Rattle.hx_session.specs.declared.stage.Ending.{Ending}
-use Rattle.hx_session.specs.Standing.{CamePlaced, CameRouted, Goes, IsTallied, IsCounted, IsNumbered, IsSet, IsPlaced, IsLeaving, KeepsWho, KeepsDesk, KeepsAsk, KeepsPlace, IsSameConn, IsRoutedTo, server_held, server_of, GoesToHeld}
+use Rattle.hx_session.specs.Telling.{CameTells, TellsEnd}
+use Rattle.hx_session.specs.Standing.{CamePlaced, CameRouted, Goes, IsNumbered, IsSet, IsPlaced, IsLeaving, KeepsDesk, KeepsAsk, KeepsPlace, IsSameConn, server_held, GoesToHeld}
 
 pub desk_none : (d : DeskNow) → KeepsDesk d d
 desk_none d = record { who = record { worker = refl; session = refl; since = refl }; on_loop = refl }
@@ -185,11 +185,13 @@ placed_on d d' e e' seats p k c carried failed = record { set = set_on d d' e e'
 
 -- a part of a step after which the session leaves
 pub goes_ends : {X : Type 0} (d d' : DeskNow) (s : StageNow) (seats seats' : List History) (net net' : NetState) (c : Came X) (x : Ending X) → c ≡ Ends x → KeepsPlace d d' seats seats' net net'
-    → IsLeaving d' x.held seats' → Goes d s seats net d' c seats' net'
-goes_ends {X = X} d d' s seats seats' net net' c x is keeps leaving = record {
+    → IsLeaving d' x.held seats' → PartTouches d s seats net d' (Ends x) seats' net' → TellsEnd s d d' x.served x.cause → Goes d s seats net d' c seats' net'
+goes_ends {X = X} d d' s seats seats' net net' c x is keeps leaving touches told = record {
   placed = subst (λ (y : Came X). CamePlaced d' y seats') (sym is) leaving;
   keeps = keeps;
+  touches = subst (λ (y : Came X). PartTouches d s seats net d' y seats' net') (sym is) touches;
   routed = λ back r. subst (λ (y : Came X). CameRouted back y) (sym is) tt;
+  told = subst (λ (y : Came X). CameTells d s d' y) (sym is) told;
 }
 
 -- an own answer whose record is given

@@ -2,7 +2,7 @@
 use Rattle.std.specs.Prelude.{◌≡◌, ◌⊎◌, ℕ, ◌+◌, Bool, true, [], length, Option, Some, None, ⊤}
 use Rattle.hx_base.specs.declared.numbers.ServerNo.{ServerNo}
 use Rattle.hx_conn.specs.Conns.{RestedNow, BusyNow}
-use Rattle.hx_conn.specs.Steps.{AnswerIsWhole, answer_ended}
+use Rattle.hx_conn.specs.Steps.{answer_ended}
 use Rattle.hx_frame.specs.declared.progress.MeterState.TheVariants.{Going, Done}
 use Rattle.hx_link.specs.Pipes.{PipeNow}
 use Rattle.hx_session.specs.declared.answers.Do.{Do}

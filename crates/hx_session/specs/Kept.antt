@@ -1,5 +1,5 @@
 -- What a call of a session keeps.
-use Rattle.std.specs.Prelude.{◌≡◌, ℕ, false, true, List, Option, Some, None}
+use Rattle.std.specs.Prelude.{◌≡◌, List, None}
 use Rattle.hx_link.specs.Told.{LinkState}
 use Rattle.hx_link.specs.Nets.{NetState}
 use Rattle.hx_pool.specs.SeatView.{History}

@@ -1,5 +1,5 @@
 -- An answer that is over, and what its record tells.
-use Rattle.std.specs.Prelude.{◌≡◌, ◌⊎◌, ℕ, ◌+◌, ◌-◌, Bool, true, false, List, [], length, IfSome}
+use Rattle.std.specs.Prelude.{◌≡◌, ◌⊎◌, ℕ, ◌+◌, Bool, true, false, List, [], IfSome}
 use Rattle.hx_frame.specs.declared.progress.MeterState.TheVariants.{Done}
 use Rattle.hx_link.specs.Told.{LinkState}
 use Rattle.hx_record.specs.Carriage.{Carriage}

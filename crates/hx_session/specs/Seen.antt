@@ -1,5 +1,5 @@
 -- A session as its worker sees it, made from what its parts work with.
-use Rattle.std.specs.Prelude.{◌≡◌, ℕ, ◌+◌, ◌-◌, ◌*◌, Bool, true, false, length, List, Option, Some, None, if◌then◌else◌}
+use Rattle.std.specs.Prelude.{◌≡◌, ℕ, ◌+◌, ◌-◌, ◌*◌, Bool, true, false, length, Option, Some, None, if◌then◌else◌}
 use Rattle.hx_base.specs.declared.numbers.ServerNo.{ServerNo}
 use Rattle.hx_conn.specs.Conns.{RestedNow}
 use Rattle.hx_frame.specs.declared.progress.MeterState.{MeterState}
@@ -9,7 +9,6 @@ use Rattle.hx_session.specs.declared.exchange.AnswerWay.TheVariants as way
 use Rattle.hx_record.specs.declared.served.Kind.{Kind}
 use Rattle.hx_record.specs.declared.served.Served.{Served}
 use Rattle.hx_session.specs.Desks.{DeskNow}
-use Rattle.hx_session.specs.Exchanged.{ExchangeNow}
 use Rattle.hx_session.specs.Over.{closing_of, served_of}
 use Rattle.hx_session.specs.Stages.{StageNow, Reading, Choosing, Exchanging, Answering, Left}
 use Rattle.hx_connecting.specs.Sessions as seen

@@ -1,8 +1,6 @@
 -- Where a session stands, and what holds there.
-use Rattle.std.specs.Prelude.{◌≡◌, ◌≢◌, ℕ, ◌+◌, ◌≤◌, List, [], ◌++◌, length, Option, Some, None, option_map, IfSome, false}
+use Rattle.std.specs.Prelude.{◌≡◌, ℕ, ◌≤◌, List, [], ◌++◌, Option, IfSome, false}
 use Rattle.hx_base.specs.declared.numbers.ServerNo.{ServerNo}
-use Rattle.hx_base.specs.declared.numbers.ConnId.{ConnId}
-use Rattle.hx_base.specs.declared.numbers.Face.{Face}
 use Rattle.hx_message.specs.OwnAnswer.{IsOwnAnswer}
 use Rattle.hx_base.specs.declared.numbers.ThreadNo.{ThreadNo}
 use Rattle.hx_base.specs.declared.numbers.SessionNo.{SessionNo}
@@ -12,13 +10,12 @@ use Rattle.hx_link.specs.Told.{LinkState}
 use Rattle.hx_conn.specs.Conns.{RestedNow}
 use Rattle.hx_session_parts.specs.declared.asks.Asked.{Asked}
 use Rattle.hx_session_parts.specs.Asks.{IsAsked}
-use Rattle.hx_session.specs.declared.desk.Desk.{Desk}
 use Rattle.hx_session.specs.declared.stage.Choosing.{Choosing as Held}
 use Rattle.hx_session.specs.declared.stage.Answering.{Answering as Own}
 use Rattle.hx_session.specs.declared.stage.Stage.{Stage}
 use Rattle.hx_session.specs.declared.stage.Stage.TheVariants as is
 use Rattle.hx_session.specs.Since.{HasSince}
-use Rattle.hx_session.specs.Desks.{DeskNow, desk_now, IsDesk}
+use Rattle.hx_session.specs.Desks.{DeskNow, IsDesk}
 use Rattle.hx_session.specs.Exchanged.{ExchangeNow, exchange_now}
 use Rattle.hx_session.specs.Carried.{IsCarried}
 use Rattle.hx_session.specs.Over.{BeginsAnew}

@@ -1,5 +1,5 @@
 -- How a session stands with its worker's seats and net, and what each part of a step keeps of that.
-use Rattle.std.specs.Prelude.{◌≡◌, ◌≢◌, ℕ, ◌+◌, ◌≤◌, false, List, Option, Some, None, ⊤}
+use Rattle.std.specs.Prelude.{◌≡◌, ◌≢◌, ◌+◌, ◌≤◌, false, List, Option, Some, None, ⊤}
 use Rattle.hx_base.specs.declared.numbers.ServerNo.{ServerNo}
 use Rattle.hx_config.specs.declared.parts.Back.{Back}
 use Rattle.hx_conn.specs.Conns.{RestedNow}
@@ -18,8 +18,10 @@ use Rattle.hx_session.specs.Desks.{DeskNow}
 use Rattle.hx_session.specs.Ending.{HasOwn}
 use Rattle.hx_session.specs.Exchanged.{ExchangeNow}
 use Rattle.hx_session.specs.Fits.{GoesTo}
+use Rattle.hx_session.specs.Parting.{PartTouches, StageTouches}
 use Rattle.hx_session.specs.Seen.{conn_seen}
 use Rattle.hx_session.specs.Stages.{StageNow, Reading, Choosing, Exchanging, Answering, Left, StandsSo, stage_now}
+use Rattle.hx_session.specs.Telling.{CameTells, TellsNone}
 
 -- the session's own number isn't the caretaker's, and its records are numbered from 1, each with a byte of a request at least
 pub record IsCounted (d : DeskNow) : Type 0 where
@@ -157,14 +159,18 @@ pub record Goes {X : Type 0} (d : DeskNow) (s : StageNow) (seats : List History)
     (d' : DeskNow) (came : Came X) (seats' : List History) (net' : NetState) : Type 0 where
   pub placed : CamePlaced d' came seats'
   pub keeps : KeepsPlace d d' seats seats' net net'
+  pub touches : PartTouches d s seats net d' came seats' net'
   pub routed : (back : Back) → IsRoutedTo back s → CameRouted back came
+  pub told : CameTells d s d' came
 
 -- the same of a part that only comes to another stage
 pub record ComesTo (d : DeskNow) (s : StageNow) (seats : List History) (net : NetState)
     (d' : DeskNow) (s' : StageNow) (seats' : List History) (net' : NetState) : Type 0 where
   pub placed : IsPlaced d' s' seats'
   pub keeps : KeepsPlace d d' seats seats' net net'
+  pub touches : StageTouches d s seats net d' s' seats' net'
   pub routed : (back : Back) → IsRoutedTo back s → IsRoutedTo back s'
+  pub told : TellsNone d d'
 
 -- what always holds of a session between its calls
 abbrev pub IsSound : DeskNow → StageNow → Type 0

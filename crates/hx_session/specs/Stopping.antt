@@ -11,7 +11,6 @@ use Rattle.hx_connecting.specs.Touches.{Touch, Adds, Had, Ends}
 use Rattle.hx_connecting.specs.Links.{LinkGoes, NoLinkGoes}
 use Rattle.hx_session.specs.Records.{Records, LeftStands}
 use Rattle.hx_record.specs.declared.served.CutCause.TheVariants as cut
-use Rattle.hx_record.specs.declared.served.LeftCause.{LeftCause}
 use Rattle.hx_record.specs.declared.served.Kind.{Kind}
 use Rattle.hx_record.specs.declared.served.Kind.TheVariants as kind
 use Rattle.hx_session.specs.Doings.{Doing, AtServer, IsSameSession, IsSameNet}

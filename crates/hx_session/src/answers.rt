@@ -1,8 +1,9 @@
 //! What a step does in an exchange.
 
-ghost use Rattle.std.specs.Prelude.{◌≡◌, ◌↔◌, ◌+◌, ◌≤◌, ◌||◌, ◌&&◌, not, IsTrue, List, map};
+ghost use Rattle.std.specs.Prelude.{◌≡◌, ◌⊎◌, ◌↔◌, ◌+◌, ◌≤◌, ◌||◌, ◌&&◌, not, IsTrue, List, map, Option, None};
 ghost use Rattle.httparse.specs.Grammar as grammar;
 ghost use Rattle.hx_config.specs.declared.parts.Back.{Back};
+ghost use Rattle.hx_link.specs.Links.{LinkFinishes};
 ghost use Rattle.hx_message.specs.declared.BodyKind.TheVariants.{ToEnd};
 ghost use Rattle.hx_frame.specs.declared.progress.MeterState.TheVariants.{Going};
 ghost use Rattle.hx_pool.specs.SeatView.{History};
@@ -11,13 +12,20 @@ ghost use Rattle.hx_session_parts.specs.Answers.{IsInterimAt, IsAnswerTo};
 ghost use Rattle.hx_session.specs.declared.exchange.AnswerWay.TheVariants.{Heads, Body};
 ghost use Rattle.hx_session.specs.Desks.{DeskNow, desk_now};
 ghost use Rattle.hx_session.specs.Ending.{HasOwnText};
-ghost use Rattle.hx_session.specs.Exchanged.{exchange_now};
+ghost use Rattle.hx_session.specs.Exchanged.{ExchangeNow, exchange_now};
 ghost use Rattle.hx_session.specs.Carried.{IsCarried};
-ghost use Rattle.hx_session.specs.Over.{IsOver, IsTold};
+ghost use Rattle.hx_session.specs.Over.{IsOver, IsTold, closing_of};
 ghost use Rattle.hx_session.specs.Finishing.{MayDo, DoesAtEnd, IsAnswerGiven, WasOver, EndsAnswer, RestsTo};
 ghost use Rattle.hx_session.specs.Passing.{PassesBody, BeginsBody};
-ghost use Rattle.hx_session.specs.Stages.{Reading, Exchanging};
+ghost use Rattle.hx_session.specs.Seen.{conn_seen};
+ghost use Rattle.hx_session.specs.Stages.{StageNow, Reading, Exchanging};
+ghost use Rattle.hx_connecting.specs.Adding.{RestTouches};
+ghost use Rattle.hx_connecting.specs.Journals.{room_of};
+ghost use Rattle.hx_connecting.specs.Rooms.{RoomsStay};
+ghost use Rattle.hx_connecting.specs.Touches.{Touch};
+ghost use Rattle.hx_session.specs.Parting.{MayTouch, CountsOn, came_conn, first_of};
 ghost use Rattle.hx_session.specs.Standing.{IsPlaced, CamePlaced, IsRoutedTo, CameRouted, KeepsDesk, KeepsAsk, IsSameConn, KeepsPlace, Goes};
+ghost use Rattle.hx_session.specs.Telling.{IsStillTold, GivesPassed, CameTells};
 
 use crate::cuts::look_down;
 use crate::desk::Desk;
@@ -179,6 +187,8 @@ fn pass_ask<L: Link>(desk: &mut Desk<L>, exchange: &mut Exchange<L>)
     ensures conn { IsSameConn (exchange_now exchange.old) (exchange_now exchange.new) }
     ensures good { exchange.new.busy.exchange.failed ≡ exchange.old.busy.exchange.failed }
     ensures keeps { KeepsAsk (desk_now L.state desk.old) (desk_now L.state desk.new) }
+    ensures told { IsStillTold (desk_now L.state desk.old) (Exchanging (exchange_now exchange.old))
+        (desk_now L.state desk.new) (Exchanging (exchange_now exchange.new)) }
 {
     let fed = pass_body(&mut exchange.ask.meter, &mut desk.from, &mut desk.up);
     exchange.ask.state = fed.state;
@@ -210,6 +220,8 @@ fn pass_answer<L: Link>(desk: &mut Desk<L>, exchange: &mut Exchange<L>, now: Mil
     ensures conn { IsSameConn (exchange_now exchange.old) (exchange_now exchange.new) }
     ensures good { exchange.new.busy.exchange.failed ≡ exchange.old.busy.exchange.failed }
     ensures keeps { KeepsAsk (desk_now L.state desk.old) (desk_now L.state desk.new) }
+    ensures told { IsStillTold (desk_now L.state desk.old) (Exchanging (exchange_now exchange.old))
+        (desk_now L.state desk.new) (Exchanging (exchange_now exchange.new)) }
 {
     desk.waits_since = desk.wait_start(now);
     let taken_to = exchange.busy.taken().to;
@@ -263,6 +275,8 @@ fn spell_interim<L: Link>(
     ensures conn { IsSameConn (exchange_now exchange.old) (exchange_now exchange.new) }
     ensures good { exchange.new.busy.exchange.failed ≡ exchange.old.busy.exchange.failed }
     ensures keeps { KeepsAsk (desk_now L.state desk.old) (desk_now L.state desk.new) }
+    ensures told { IsStillTold (desk_now L.state desk.old) (Exchanging (exchange_now exchange.old))
+        (desk_now L.state desk.new) (Exchanging (exchange_now exchange.new)) }
 {
     let taken_to = exchange.busy.taken().to;
     let since = desk.wait_start(now);
@@ -288,6 +302,8 @@ fn spell_final<L: Link>(
     ensures conn { IsSameConn (exchange_now exchange.old) (exchange_now exchange.new) }
     ensures good { exchange.new.busy.exchange.failed ≡ exchange.old.busy.exchange.failed }
     ensures keeps { KeepsAsk (desk_now L.state desk.old) (desk_now L.state desk.new) }
+    ensures told { IsStillTold (desk_now L.state desk.old) (Exchanging (exchange_now exchange.old))
+        (desk_now L.state desk.new) (Exchanging (exchange_now exchange.new)) }
 {
     let taken_to = exchange.busy.taken().to;
     let body = body_way(answered, exchange.ask.wants_close, exchange.ask.written);
@@ -304,7 +320,10 @@ fn spell_final<L: Link>(
 /// The exchange goes on.
 fn goes_on<L: Link>(exchange: Exchange<L>, waits: Waiting, moved: bool) -> Came<L>
     ensures placed { (d : DeskNow) (seats : List History) → IsPlaced d (Exchanging (exchange_now exchange)) seats → CamePlaced d result seats }
+    ensures conn { came_conn result ≡ conn_seen (Exchanging (exchange_now exchange)) }
     ensures routed { (back : Back) → IsRoutedTo back (Exchanging (exchange_now exchange)) → CameRouted back result }
+    ensures told { (d0 d : DeskNow) (s0 : StageNow) → IsStillTold d0 s0 d (Exchanging (exchange_now exchange))
+        → CameTells d0 s0 d result }
 {
     let stage = Stage::Exchanging(exchange);
     if moved {
@@ -316,7 +335,8 @@ fn goes_on<L: Link>(exchange: Exchange<L>, waits: Waiting, moved: bool) -> Came<
 
 /// A fault of the server's side, which a 502 answers where nothing was given yet.
 fn bad_gateway(cause: CutCause, now: Millis, waits: Waiting) -> (CutCause, Own)
-    ensures { HasOwnText result.1.status }
+    ensures known { HasOwnText result.1.status }
+    ensures same { result.0 ≡ cause }
 {
     (
         cause,
@@ -338,6 +358,7 @@ fn look_for_head<L: Link, S: Seat<Rested<L>>, N: Net<L = L>>(
 ) -> Came<L>
     requires heads { exchange.answer ≡ Heads }
     requires placed { IsPlaced (desk_now L.state desk.old) (Exchanging (exchange_now exchange)) (map S.history seats.old) }
+    ensures rooms { RoomsStay S.history (room_of S.kept_from S.spare) seats.old seats.new }
     ensures goes { Goes (desk_now L.state desk.old) (Exchanging (exchange_now exchange)) (map S.history seats.old) (N.state net.old)
         (desk_now L.state desk.new) result (map S.history seats.new) (N.state net.new) }
 {
@@ -399,11 +420,15 @@ fn pass<L: Link, S: Seat<Rested<L>>, N: Net<L = L>>(
 ) -> (Served, Option<Rested<L>>)
     requires placed { IsPlaced (desk_now L.state desk.old) (Exchanging (exchange_now exchange)) (map S.history seats.old) }
     requires over { (b : BodyWay) × IsOver (desk_now L.state desk.old) (exchange_now exchange) b }
+    ensures rooms { RoomsStay S.history (room_of S.kept_from S.spare) seats.old seats.new }
     ensures told { (why : Cause) → IsTold (L.state desk.old.client) exchange.busy.link why result.0 }
     ensures placed { IsPlaced (desk_now L.state desk.new) (Reading result.1) (map S.history seats.new) }
     ensures keeps { KeepsPlace (desk_now L.state desk.old) (desk_now L.state desk.new) (map S.history seats.old) (map S.history seats.new)
         (N.state net.old) (N.state net.new) }
+    ensures touches { RestTouches desk.old.worker desk.old.session (first_of (desk_now L.state desk.old))
+        (map S.history seats.old) (map S.history seats.new) result.1 }
     ensures server { RestsTo exchange.busy.server result.1 }
+    ensures gives { GivesPassed (desk_now L.state desk.old) (desk_now L.state desk.new) (exchange_now exchange) result.0 }
 {
     let served = tell_passed(desk, &exchange);
     let busy = end_answer(exchange);
@@ -423,6 +448,7 @@ fn finish<L: Link, S: Seat<Rested<L>>, N: Net<L = L>>(
 ) -> Came<L>
     requires whole { IsAnswerGiven (desk_now L.state desk.old) (exchange_now exchange) }
     requires placed { IsPlaced (desk_now L.state desk.old) (Exchanging (exchange_now exchange)) (map S.history seats.old) }
+    ensures rooms { RoomsStay S.history (room_of S.kept_from S.spare) seats.old seats.new }
     ensures goes { Goes (desk_now L.state desk.old) (Exchanging (exchange_now exchange)) (map S.history seats.old) (N.state net.old)
         (desk_now L.state desk.new) result (map S.history seats.new) (N.state net.new) }
 {
@@ -434,6 +460,13 @@ fn finish<L: Link, S: Seat<Rested<L>>, N: Net<L = L>>(
     after_pass(desk, closing, held, waits, served)
 }
 
+/// Nothing more is written to the client.
+fn finish_client<L: Link>(client: &mut L)
+    ensures finishes { LinkFinishes (L.state client.old) (L.state client.new) }
+{
+    client.finish();
+}
+
 /// The session reads the next request, or leaves.
 fn after_pass<L: Link>(
     desk: &mut Desk<L>,
@@ -443,11 +476,16 @@ fn after_pass<L: Link>(
     served: Served,
 ) -> Came<L>
     ensures placed { (seats : List History) → IsPlaced (desk_now L.state desk.old) (Reading held) seats → CamePlaced (desk_now L.state desk.new) result seats }
+    ensures touches { (d : DeskNow) (x : Option Touch) → (x ≡ None) ⊎ (held ≡ None)
+        → MayTouch result x × CountsOn d (desk_now L.state desk.new) result }
     ensures keeps { KeepsDesk (desk_now L.state desk.old) (desk_now L.state desk.new) }
     ensures routed { (back : Back) → IsRoutedTo back (Reading held) → CameRouted back result }
+    ensures told { (d : DeskNow) (e : ExchangeNow) → closing ≡ closing_of e.answer
+        → GivesPassed d (desk_now L.state desk.old) e served → ((why : Cause) → IsTold d.client e.busy.link why served)
+        → CameTells d (Exchanging e) (desk_now L.state desk.new) result }
 {
     if closing {
-        desk.client.finish();
+        finish_client(&mut desk.client);
         leave_after(LeftCause::Closing, held, served)
     } else {
         Came::Moved(Stage::Reading(held), waits, Some(served))
@@ -463,6 +501,7 @@ fn refuse_ask<L: Link, S: Seat<Rested<L>>, N: Net<L = L>>(
     at: At,
 ) -> Came<L>
     requires placed { IsPlaced (desk_now L.state desk.old) (Exchanging (exchange_now exchange)) (map S.history seats.old) }
+    ensures rooms { RoomsStay S.history (room_of S.kept_from S.spare) seats.old seats.new }
     ensures goes { Goes (desk_now L.state desk.old) (Exchanging (exchange_now exchange)) (map S.history seats.old) (N.state net.old)
         (desk_now L.state desk.new) result (map S.history seats.new) (N.state net.new) }
 {
@@ -483,6 +522,7 @@ pub(crate) fn go_on<L: Link, S: Seat<Rested<L>>, N: Net<L = L>>(
     at: At,
 ) -> Came<L>
     requires placed { IsPlaced (desk_now L.state desk.old) (Exchanging (exchange_now exchange)) (map S.history seats.old) }
+    ensures rooms { RoomsStay S.history (room_of S.kept_from S.spare) seats.old seats.new }
     ensures goes { Goes (desk_now L.state desk.old) (Exchanging (exchange_now exchange)) (map S.history seats.old) (N.state net.old)
         (desk_now L.state desk.new) result (map S.history seats.new) (N.state net.new) }
 {

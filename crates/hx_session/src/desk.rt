@@ -37,13 +37,15 @@ pub(crate) struct Desk<L: Link> {
 }
 
 impl<L: Link> Desk<L> {
-    ghost use Rattle.std.specs.Prelude.{◌≡◌, ◌↔◌, ◌<◌, ◌≤◌, ◌+◌, IsTrue};
+    ghost use Rattle.std.specs.Prelude.{◌≡◌, ◌==◌, ◌↔◌, ◌<◌, ◌≤◌, ◌+◌, IsTrue};
     ghost use Rattle.hx_link.specs.Told.{most_bytes};
     ghost use Rattle.hx_session.specs.Desks.{desk_now, emptied};
     ghost use Rattle.hx_session.specs.Over.{served_of, after_record, left_of};
 
     /// It is the first request of the session.
-    pub fn is_first(&self) -> bool {
+    pub fn is_first(&self) -> bool
+        ensures { result ≡ (self.now.number == 1) }
+    {
         self.number == 1
     }
 

@@ -11,6 +11,9 @@ ghost use Rattle.hx_base.specs.declared.numbers.ThreadNo.{ThreadNo};
 ghost use Rattle.hx_connecting.specs.Around.{HasAround, abouts};
 ghost use Rattle.hx_connecting.specs.Closing.{ClosesAt};
 ghost use Rattle.hx_connecting.specs.Sessions.{Exchanging as OnConn};
+ghost use Rattle.hx_connecting.specs.Journals.{room_of};
+ghost use Rattle.hx_connecting.specs.Rooms.{RoomsStay};
+ghost use Rattle.hx_session.specs.Parting.{PartTouches};
 ghost use Rattle.hx_session.specs.declared.stage.Came.TheVariants.{Ends};
 ghost use Rattle.hx_session.specs.Desks.{desk_now, IsDesk};
 ghost use Rattle.hx_session.specs.Exchanged.{exchange_now};
@@ -19,6 +22,8 @@ ghost use Rattle.hx_session.specs.Stages.{Exchanging, StandsSo, own_stage, stage
 ghost use Rattle.hx_session.specs.Ending.{CutsOff, EndsInCut, HasOwnText, AnswersOwn};
 ghost use Rattle.hx_session.specs.Standing.{IsCounted, IsLeaving, IsPlaced, IsSet, KeepsPlace, Goes};
 ghost use Rattle.hx_link.specs.Told.{most_bytes};
+ghost use Rattle.hx_session.specs.Records.{cut_ends};
+ghost use Rattle.hx_session.specs.Telling.{LeavesOwn, StopTells};
 
 use crate::cuts::{answer_end, ask_end};
 use crate::desk::Desk;
@@ -117,6 +122,7 @@ pub(crate) fn cut_off<L: Link, S: Seat<Rested<L>>, N: Net<L = L>>(
     cause: CutCause,
 ) -> Served
     requires set { IsSet (desk_now L.state desk.old) (Exchanging (exchange_now exchange)) (map S.history seats.old) }
+    ensures rooms { RoomsStay S.history (room_of S.kept_from S.spare) seats.old seats.new }
     ensures cuts { CutsOff (desk_now L.state desk.old) (desk_now L.state desk.new) (exchange_now exchange) cause result }
     ensures closes { ClosesAt (map S.history seats.old) (map S.history seats.new) exchange.busy.server.0
         desk.old.session exchange.busy.id (N.state net.old) (N.state net.new) exchange.busy.link }
@@ -141,7 +147,9 @@ pub(crate) fn cut<L: Link, S: Seat<Rested<L>>, N: Net<L = L>>(
     net: &mut N,
     cause: CutCause,
 ) -> Came<L>
+    requires ends { cut_ends cause ≡ left_cause.Cut }
     requires set { IsSet (desk_now L.state desk.old) (Exchanging (exchange_now exchange)) (map S.history seats.old) }
+    ensures rooms { RoomsStay S.history (room_of S.kept_from S.spare) seats.old seats.new }
     ensures ends { EndsInCut (desk_now L.state desk.old) (desk_now L.state desk.new) (exchange_now exchange) cause result }
     ensures goes { Goes (desk_now L.state desk.old) (Exchanging (exchange_now exchange)) (map S.history seats.old) (N.state net.old)
         (desk_now L.state desk.new) result (map S.history seats.new) (N.state net.new) }
@@ -170,6 +178,7 @@ pub(crate) fn give_up<L: Link, S: Seat<Rested<L>>, N: Net<L = L>>(
     requires known { HasOwnText own.status }
     requires nothing { desk.old.given ≤ desk.old.gave_from }
     requires set { IsSet (desk_now L.state desk.old) (Exchanging (exchange_now exchange)) (map S.history seats.old) }
+    ensures rooms { RoomsStay S.history (room_of S.kept_from S.spare) seats.old seats.new }
     ensures goes { Goes (desk_now L.state desk.old) (Exchanging (exchange_now exchange)) (map S.history seats.old) (N.state net.old)
         (desk_now L.state desk.new) result (map S.history seats.new) (N.state net.new) }
 {
@@ -187,7 +196,9 @@ pub(crate) fn end_by_server<L: Link, S: Seat<Rested<L>>, N: Net<L = L>>(
     why: (CutCause, Own),
 ) -> Came<L>
     requires known { HasOwnText why.1.status }
+    requires ends { cut_ends why.0 ≡ left_cause.Cut }
     requires set { IsSet (desk_now L.state desk.old) (Exchanging (exchange_now exchange)) (map S.history seats.old) }
+    ensures rooms { RoomsStay S.history (room_of S.kept_from S.spare) seats.old seats.new }
     ensures goes { Goes (desk_now L.state desk.old) (Exchanging (exchange_now exchange)) (map S.history seats.old) (N.state net.old)
         (desk_now L.state desk.new) result (map S.history seats.new) (N.state net.new) }
 {
@@ -213,7 +224,9 @@ pub(crate) fn lose_server<L: Link, S: Seat<Rested<L>>, N: Net<L = L>>(
     why: (CutCause, Own),
 ) -> Came<L>
     requires known { HasOwnText why.1.status }
+    requires ends { cut_ends why.0 ≡ left_cause.Cut }
     requires set { IsSet (desk_now L.state desk.old) (Exchanging (exchange_now exchange)) (map S.history seats.old) }
+    ensures rooms { RoomsStay S.history (room_of S.kept_from S.spare) seats.old seats.new }
     ensures goes { Goes (desk_now L.state desk.old) (Exchanging (exchange_now exchange)) (map S.history seats.old) (N.state net.old)
         (desk_now L.state desk.new) result (map S.history seats.new) (N.state net.new) }
 {
@@ -232,6 +245,7 @@ pub(crate) fn leave_answering<L: Link>(
 ) -> Came<L>
     requires stands { StandsSo (desk_now L.state desk.old) (stage_of_answering answering) }
     requires counted { IsCounted (desk_now L.state desk.old) }
+    requires cause { LeavesOwn (desk_now L.state desk.old) left }
     ensures goes { (seats : List History) (net : NetState) → IsPlaced (desk_now L.state desk.old) (stage_of_answering answering) seats
         → Goes (desk_now L.state desk.old) (stage_of_answering answering) seats net (desk_now L.state desk.new) result seats net }
 {
@@ -241,23 +255,24 @@ pub(crate) fn leave_answering<L: Link>(
     leave_after(left, held, served)
 }
 
-/// Cuts the exchange that is under way, or leaves, with the record of an own answer where one was decided.
+/// The client's link failed: the exchange that is under way is cut off, or the session leaves, with the record of an own answer where
+/// one was decided.
 pub(crate) fn leave_or_cut<L: Link, S: Seat<Rested<L>>, N: Net<L = L>>(
     desk: &mut Desk<L>,
     stage: Stage<L>,
     seats: &mut [S],
     net: &mut N,
-    left: LeftCause,
 ) -> Came<L>
     requires placed { IsPlaced (desk_now L.state desk.old) (stage_now stage) (map S.history seats.old) }
+    ensures rooms { RoomsStay S.history (room_of S.kept_from S.spare) seats.old seats.new }
     ensures goes { Goes (desk_now L.state desk.old) (stage_now stage) (map S.history seats.old) (N.state net.old)
         (desk_now L.state desk.new) result (map S.history seats.new) (N.state net.new) }
 {
     match stage {
         Stage::Exchanging(exchange) => cut(desk, exchange, seats, net, CutCause::Client),
-        Stage::Reading(held) => leave(left, held),
-        Stage::Choosing(Choosing { held, .. }) => leave(left, held),
-        Stage::Answering(answering) => leave_answering(desk, answering, left),
+        Stage::Reading(held) => leave(LeftCause::Fault, held),
+        Stage::Choosing(Choosing { held, .. }) => leave(LeftCause::Fault, held),
+        Stage::Answering(answering) => leave_answering(desk, answering, LeftCause::Fault),
         Stage::Left => Came::Moved(Stage::Left, Waiting::Nothing, None),
     }
 }
@@ -270,11 +285,15 @@ pub(crate) fn stop_stage<L: Link, S: Seat<Rested<L>>, N: Net<L = L>>(
     net: &mut N,
 ) -> Ending<L>
     requires placed { IsPlaced (desk_now L.state desk.old) (stage_now stage) (map S.history seats.old) }
+    ensures rooms { RoomsStay S.history (room_of S.kept_from S.spare) seats.old seats.new }
     ensures leaving { IsLeaving (desk_now L.state desk.new) result.held (map S.history seats.new) }
     ensures keeps { KeepsPlace (desk_now L.state desk.old) (desk_now L.state desk.new) (map S.history seats.old) (map S.history seats.new)
         (N.state net.old) (N.state net.new) }
+    ensures touches { PartTouches (desk_now L.state desk.old) (stage_now stage) (map S.history seats.old) (N.state net.old)
+        (desk_now L.state desk.new) (Ends result) (map S.history seats.new) (N.state net.new) }
     ensures client { L.state desk.new.client ≡ L.state desk.old.client }
     ensures cause { result.cause ≡ left_cause.Stop }
+    ensures told { StopTells (stage_now stage) (desk_now L.state desk.old) (desk_now L.state desk.new) result.served }
 {
     let cause = LeftCause::Stop;
     match stage {

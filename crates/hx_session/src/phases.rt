@@ -7,13 +7,20 @@ ghost use Rattle.hx_link.specs.Nets.{NetState};
 ghost use Rattle.hx_pool.specs.SeatView.{History};
 ghost use Rattle.hx_connecting.specs.Around.{abouts};
 ghost use Rattle.hx_connecting.specs.Choice.{HaveSeats};
+ghost use Rattle.hx_connecting.specs.Journals.{room_of};
+ghost use Rattle.hx_connecting.specs.Rooms.{RoomsStay};
 ghost use Rattle.hx_session.specs.Desks.{DeskNow, desk_now};
-ghost use Rattle.hx_session.specs.Exchanged.{exchange_now};
+ghost use Rattle.hx_session.specs.Exchanged.{ExchangeNow, exchange_now};
 ghost use Rattle.hx_session.specs.Ending.{HasOwnText};
 ghost use Rattle.hx_session.specs.declared.moves.Move.TheVariants.{Failed};
-ghost use Rattle.hx_session.specs.Stages.{Left as Gone, Reading, Exchanging, StandsSo, IsBetween, stage_now, stage_of_answering, stage_of_choosing};
+ghost use Rattle.hx_session.specs.Moves.{with_client};
+ghost use Rattle.hx_session.specs.Stages.{StageNow, Left as Gone, Reading, Exchanging, StandsSo, IsBetween, stage_now, stage_of_answering, stage_of_choosing};
 ghost use Rattle.hx_session.specs.Standing.{IsCounted, IsPlaced, CamePlaced, IsRoutedTo, CameRouted, KeepsPlace, KeepsOver, Goes, IsDone, IsGone, IsLeaving, IsSet};
 ghost use Rattle.hx_session.specs.Still.{WantsClient};
+ghost use Rattle.hx_session.specs.Telling.{MoveTells, CameTells, TellsEnd, DoneTells};
+ghost use Rattle.hx_connecting.specs.Adding.{SomeTouches};
+ghost use Rattle.hx_session.specs.Parting.{LetsGo, TouchesOn, TouchesAll, first_of};
+ghost use Rattle.hx_session.specs.declared.stage.Came.TheVariants.{Ends};
 
 use crate::answers::{At, go_on};
 use crate::asks::{choose_server, go_out, read_head};
@@ -57,6 +64,7 @@ fn cut_late<L: Link, S: Seat<Rested<L>>, N: Net<L = L>>(
 ) -> Came<L>
     requires known { HasOwnText own.status }
     requires placed { IsPlaced (desk_now L.state desk.old) (Exchanging (exchange_now exchange)) (map S.history seats.old) }
+    ensures rooms { RoomsStay S.history (room_of S.kept_from S.spare) seats.old seats.new }
     ensures goes { Goes (desk_now L.state desk.old) (Exchanging (exchange_now exchange)) (map S.history seats.old) (N.state net.old)
         (desk_now L.state desk.new) result (map S.history seats.new) (N.state net.new) }
 {
@@ -103,6 +111,7 @@ fn meet_client_late<L: Link, S: Seat<Rested<L>>, N: Net<L = L>>(
 ) -> Came<L>
     requires known { HasOwnText own.status }
     requires placed { IsPlaced (desk_now L.state desk.old) (stage_now stage) (map S.history seats.old) }
+    ensures rooms { RoomsStay S.history (room_of S.kept_from S.spare) seats.old seats.new }
     ensures goes { Goes (desk_now L.state desk.old) (stage_now stage) (map S.history seats.old) (N.state net.old)
         (desk_now L.state desk.new) result (map S.history seats.new) (N.state net.new) }
 {
@@ -141,6 +150,7 @@ fn meet_server_late<L: Link, S: Seat<Rested<L>>, N: Net<L = L>>(
 ) -> Came<L>
     requires known { HasOwnText own.status }
     requires placed { IsPlaced (desk_now L.state desk.old) (stage_now stage) (map S.history seats.old) }
+    ensures rooms { RoomsStay S.history (room_of S.kept_from S.spare) seats.old seats.new }
     ensures goes { Goes (desk_now L.state desk.old) (stage_now stage) (map S.history seats.old) (N.state net.old)
         (desk_now L.state desk.new) result (map S.history seats.new) (N.state net.new) }
 {
@@ -168,6 +178,7 @@ fn meet_deadline<L: Link, S: Seat<Rested<L>>, N: Net<L = L>>(
     scene: Scene<'_>,
 ) -> Came<L>
     requires placed { IsPlaced (desk_now L.state desk.old) (stage_now stage) (map S.history seats.old) }
+    ensures rooms { RoomsStay S.history (room_of S.kept_from S.spare) seats.old seats.new }
     ensures goes { Goes (desk_now L.state desk.old) (stage_now stage) (map S.history seats.old) (N.state net.old)
         (desk_now L.state desk.new) result (map S.history seats.new) (N.state net.new) }
 {
@@ -193,13 +204,14 @@ fn give_some<L: Link, S: Seat<Rested<L>>, N: Net<L = L>>(
     at: At,
 ) -> Came<L>
     requires placed { IsPlaced (desk_now L.state desk.old) (stage_now stage) (map S.history seats.old) }
+    ensures rooms { RoomsStay S.history (room_of S.kept_from S.spare) seats.old seats.new }
     ensures goes { Goes (desk_now L.state desk.old) (stage_now stage) (map S.history seats.old) (N.state net.old)
         (desk_now L.state desk.new) result (map S.history seats.new) (N.state net.new) }
 {
     match give(desk, at.now) {
         Move::Bytes => Came::Moved(stage, at.waits, None),
         Move::Ended => Came::Moved(stage, at.waits, None),
-        Move::Failed => leave_or_cut(desk, stage, seats, net, LeftCause::Fault),
+        Move::Failed => leave_or_cut(desk, stage, seats, net),
         Move::Idle => Came::On(stage, at.waits),
         Move::Waits => Came::On(stage, at.waits.or(Waiting::Client)),
     }
@@ -214,10 +226,15 @@ fn move_to_client<L: Link, S: Seat<Rested<L>>, N: Net<L = L>>(
     now: Millis,
 ) -> Came<L>
     requires placed { CamePlaced (desk_now L.state desk.old) came (map S.history seats.old) }
+    ensures rooms { RoomsStay S.history (room_of S.kept_from S.spare) seats.old seats.new }
     ensures placed { CamePlaced (desk_now L.state desk.new) result (map S.history seats.new) }
     ensures keeps { KeepsPlace (desk_now L.state desk.old) (desk_now L.state desk.new) (map S.history seats.old) (map S.history seats.new)
         (N.state net.old) (N.state net.new) }
+    ensures touches { TouchesOn (desk_now L.state desk.old) came (map S.history seats.old) (N.state net.old)
+        (desk_now L.state desk.new) result (map S.history seats.new) (N.state net.new) }
     ensures routed { (back : Back) → CameRouted back came → CameRouted back result }
+    ensures told { (d0 : DeskNow) (s0 : StageNow) → CameTells d0 s0 (desk_now L.state desk.old) came
+        → CameTells d0 s0 (desk_now L.state desk.new) result }
 {
     let Came::On(stage, waits) = came else {
         return came;
@@ -235,8 +252,11 @@ fn after_server_move<L: Link, S: Seat<Rested<L>>, N: Net<L = L>>(
 ) -> Came<L>
     requires good { (call.0 ≡ Failed → ⊥) → exchange.busy.exchange.failed ≡ false }
     requires set { IsSet (desk_now L.state desk.old) (Exchanging (exchange_now exchange)) (map S.history seats.old) }
+    ensures rooms { RoomsStay S.history (room_of S.kept_from S.spare) seats.old seats.new }
     ensures goes { Goes (desk_now L.state desk.old) (Exchanging (exchange_now exchange)) (map S.history seats.old) (N.state net.old)
         (desk_now L.state desk.new) result (map S.history seats.new) (N.state net.new) }
+    ensures told { (d : DeskNow) (e : ExchangeNow) → MoveTells call.0 d e (desk_now L.state desk.old) (exchange_now exchange)
+        → CameTells d (Exchanging e) (desk_now L.state desk.new) result }
 {
     let (moved, at) = call;
     match moved {
@@ -264,6 +284,7 @@ fn send_some<L: Link, S: Seat<Rested<L>>, N: Net<L = L>>(
     at: At,
 ) -> Came<L>
     requires placed { IsPlaced (desk_now L.state desk.old) (Exchanging (exchange_now exchange)) (map S.history seats.old) }
+    ensures rooms { RoomsStay S.history (room_of S.kept_from S.spare) seats.old seats.new }
     ensures goes { Goes (desk_now L.state desk.old) (Exchanging (exchange_now exchange)) (map S.history seats.old) (N.state net.old)
         (desk_now L.state desk.new) result (map S.history seats.new) (N.state net.new) }
 {
@@ -280,10 +301,15 @@ fn move_to_server<L: Link, S: Seat<Rested<L>>, N: Net<L = L>>(
     now: Millis,
 ) -> Came<L>
     requires placed { CamePlaced (desk_now L.state desk.old) came (map S.history seats.old) }
+    ensures rooms { RoomsStay S.history (room_of S.kept_from S.spare) seats.old seats.new }
     ensures placed { CamePlaced (desk_now L.state desk.new) result (map S.history seats.new) }
     ensures keeps { KeepsPlace (desk_now L.state desk.old) (desk_now L.state desk.new) (map S.history seats.old) (map S.history seats.new)
         (N.state net.old) (N.state net.new) }
+    ensures touches { TouchesOn (desk_now L.state desk.old) came (map S.history seats.old) (N.state net.old)
+        (desk_now L.state desk.new) result (map S.history seats.new) (N.state net.new) }
     ensures routed { (back : Back) → CameRouted back came → CameRouted back result }
+    ensures told { (d0 : DeskNow) (s0 : StageNow) → CameTells d0 s0 (desk_now L.state desk.old) came
+        → CameTells d0 s0 (desk_now L.state desk.new) result }
 {
     let Came::On(stage, waits) = came else {
         return came;
@@ -304,10 +330,13 @@ fn take_turn<L: Link, S: Seat<Rested<L>>>(
     requires few { length back.now.servers ≤ 32 }
     requires turn { turn.old < length back.now.servers }
     requires seats { HaveSeats back.now.servers (length seats.old) }
+    ensures rooms { RoomsStay S.history (room_of S.kept_from S.spare) seats.old seats.new }
     ensures placed { (d : DeskNow) → CamePlaced d came (map S.history seats.old) → CamePlaced d result (map S.history seats.new) }
     ensures about { abouts (map S.history seats.new) ≡ abouts (map S.history seats.old) }
+    ensures touches { (d : DeskNow) (net : NetState) → TouchesOn d came (map S.history seats.old) net d result (map S.history seats.new) net }
     ensures routed { CameRouted back.now came → CameRouted back.now result }
     ensures turn { turn.new < length back.now.servers }
+    ensures told { (d0 d : DeskNow) (s0 : StageNow) → CameTells d0 s0 d came → CameTells d0 s0 d result }
 {
     let Came::On(stage, waits) = came else {
         return came;
@@ -341,6 +370,7 @@ fn do_stage<L: Link, S: Seat<Rested<L>>, N: Net<L = L>>(
     requires routed { IsRoutedTo scene.back.now (stage_now stage) }
     requires loop_ { (N.state net.old).loop_no ≡ desk.old.worker.0 }
     requires placed { IsPlaced (desk_now L.state desk.old) (stage_now stage) (map S.history seats.old) }
+    ensures rooms { RoomsStay S.history (room_of S.kept_from S.spare) seats.old seats.new }
     ensures goes { Goes (desk_now L.state desk.old) (stage_now stage) (map S.history seats.old) (N.state net.old)
         (desk_now L.state desk.new) result (map S.history seats.new) (N.state net.new) }
 {
@@ -375,10 +405,15 @@ fn do_phase<L: Link, S: Seat<Rested<L>>, N: Net<L = L>>(
     requires routed { CameRouted scene.back.now came }
     requires loop_ { (N.state net.old).loop_no ≡ desk.old.worker.0 }
     requires placed { CamePlaced (desk_now L.state desk.old) came (map S.history seats.old) }
+    ensures rooms { RoomsStay S.history (room_of S.kept_from S.spare) seats.old seats.new }
     ensures placed { CamePlaced (desk_now L.state desk.new) result (map S.history seats.new) }
     ensures keeps { KeepsPlace (desk_now L.state desk.old) (desk_now L.state desk.new) (map S.history seats.old) (map S.history seats.new)
         (N.state net.old) (N.state net.new) }
+    ensures touches { TouchesOn (desk_now L.state desk.old) came (map S.history seats.old) (N.state net.old)
+        (desk_now L.state desk.new) result (map S.history seats.new) (N.state net.new) }
     ensures routed { (back : Back) → CameRouted back came → CameRouted back result }
+    ensures told { (d0 : DeskNow) (s0 : StageNow) → CameTells d0 s0 (desk_now L.state desk.old) came
+        → CameTells d0 s0 (desk_now L.state desk.new) result }
 {
     let Came::On(stage, waits) = came else {
         return came;
@@ -413,13 +448,14 @@ fn take_some<L: Link, S: Seat<Rested<L>>, N: Net<L = L>>(
 ) -> Came<L>
     requires wants { WantsClient (stage_now stage) }
     requires placed { IsPlaced (desk_now L.state desk.old) (stage_now stage) (map S.history seats.old) }
+    ensures rooms { RoomsStay S.history (room_of S.kept_from S.spare) seats.old seats.new }
     ensures goes { Goes (desk_now L.state desk.old) (stage_now stage) (map S.history seats.old) (N.state net.old)
         (desk_now L.state desk.new) result (map S.history seats.new) (N.state net.new) }
 {
     match read_client(desk, at.now) {
         Move::Bytes => Came::Moved(stage, at.waits, None),
         Move::Ended => Came::Moved(stage, at.waits, None),
-        Move::Failed => leave_or_cut(desk, stage, seats, net, LeftCause::Fault),
+        Move::Failed => leave_or_cut(desk, stage, seats, net),
         Move::Idle => Came::On(stage, at.waits),
         Move::Waits => Came::On(stage, at.waits.or(Waiting::Client)),
     }
@@ -434,10 +470,15 @@ fn move_from_client<L: Link, S: Seat<Rested<L>>, N: Net<L = L>>(
     now: Millis,
 ) -> Came<L>
     requires placed { CamePlaced (desk_now L.state desk.old) came (map S.history seats.old) }
+    ensures rooms { RoomsStay S.history (room_of S.kept_from S.spare) seats.old seats.new }
     ensures placed { CamePlaced (desk_now L.state desk.new) result (map S.history seats.new) }
     ensures keeps { KeepsPlace (desk_now L.state desk.old) (desk_now L.state desk.new) (map S.history seats.old) (map S.history seats.new)
         (N.state net.old) (N.state net.new) }
+    ensures touches { TouchesOn (desk_now L.state desk.old) came (map S.history seats.old) (N.state net.old)
+        (desk_now L.state desk.new) result (map S.history seats.new) (N.state net.new) }
     ensures routed { (back : Back) → CameRouted back came → CameRouted back result }
+    ensures told { (d0 : DeskNow) (s0 : StageNow) → CameTells d0 s0 (desk_now L.state desk.old) came
+        → CameTells d0 s0 (desk_now L.state desk.new) result }
 {
     let Came::On(stage, waits) = came else {
         return came;
@@ -457,6 +498,7 @@ fn read_some<L: Link, S: Seat<Rested<L>>, N: Net<L = L>>(
     at: At,
 ) -> Came<L>
     requires placed { IsPlaced (desk_now L.state desk.old) (Exchanging (exchange_now exchange)) (map S.history seats.old) }
+    ensures rooms { RoomsStay S.history (room_of S.kept_from S.spare) seats.old seats.new }
     ensures goes { Goes (desk_now L.state desk.old) (Exchanging (exchange_now exchange)) (map S.history seats.old) (N.state net.old)
         (desk_now L.state desk.new) result (map S.history seats.new) (N.state net.new) }
 {
@@ -473,10 +515,15 @@ fn move_from_server<L: Link, S: Seat<Rested<L>>, N: Net<L = L>>(
     now: Millis,
 ) -> Came<L>
     requires placed { CamePlaced (desk_now L.state desk.old) came (map S.history seats.old) }
+    ensures rooms { RoomsStay S.history (room_of S.kept_from S.spare) seats.old seats.new }
     ensures placed { CamePlaced (desk_now L.state desk.new) result (map S.history seats.new) }
     ensures keeps { KeepsPlace (desk_now L.state desk.old) (desk_now L.state desk.new) (map S.history seats.old) (map S.history seats.new)
         (N.state net.old) (N.state net.new) }
+    ensures touches { TouchesOn (desk_now L.state desk.old) came (map S.history seats.old) (N.state net.old)
+        (desk_now L.state desk.new) result (map S.history seats.new) (N.state net.new) }
     ensures routed { (back : Back) → CameRouted back came → CameRouted back result }
+    ensures told { (d0 : DeskNow) (s0 : StageNow) → CameTells d0 s0 (desk_now L.state desk.old) came
+        → CameTells d0 s0 (desk_now L.state desk.new) result }
 {
     let Came::On(stage, waits) = came else {
         return came;
@@ -495,8 +542,12 @@ pub(crate) fn let_go<L: Link, S: Seat<Rested<L>>, N: Net<L = L>>(
     net: &mut N,
 )
     requires leaving { IsLeaving (desk_now L.state desk.old) held (map S.history seats.old) }
+    ensures rooms { RoomsStay S.history (room_of S.kept_from S.spare) seats.old seats.new }
     ensures gone { IsGone (desk_now L.state desk.new) (map S.history seats.new) }
     ensures client { L.state desk.new.client ≡ record (L.state desk.old.client) { on_loop = None } }
+    ensures desk { desk_now L.state desk.new ≡ with_client (desk_now L.state desk.old) (L.state desk.new.client) }
+    ensures closes { LetsGo desk.old.session held (map S.history seats.old) (map S.history seats.new)
+        (N.state net.old) (N.state net.new) (L.state desk.old.client) (L.state desk.new.client) }
     ensures keeps { KeepsOver (desk_now L.state desk.old) (desk_now L.state desk.new) (map S.history seats.old) (map S.history seats.new)
         (N.state net.old) (N.state net.new) }
 {
@@ -512,10 +563,14 @@ fn give_left<L: Link, S: Seat<Rested<L>>, N: Net<L = L>>(
     net: &mut N,
 ) -> Done<L>
     requires leaving { IsLeaving (desk_now L.state desk.old) ending.held (map S.history seats.old) }
+    ensures rooms { RoomsStay S.history (room_of S.kept_from S.spare) seats.old seats.new }
     ensures stage { stage_now result.stage ≡ Gone }
+    ensures touches { TouchesAll (desk_now L.state desk.old) (Ends ending) (map S.history seats.old) (N.state net.old) (map S.history seats.new) }
     ensures done { IsDone (desk_now L.state desk.new) (stage_now result.stage) (map S.history seats.new) result.waits result.left }
     ensures keeps { KeepsOver (desk_now L.state desk.old) (desk_now L.state desk.new) (map S.history seats.old) (map S.history seats.new)
         (N.state net.old) (N.state net.new) }
+    ensures told { (d0 : DeskNow) (s0 : StageNow) → TellsEnd s0 d0 (desk_now L.state desk.old) ending.served ending.cause
+        → DoneTells d0 s0 (desk_now L.state desk.new) result.served result.left }
 {
     let Ending {
         cause,
@@ -541,10 +596,14 @@ fn conclude<L: Link, S: Seat<Rested<L>>, N: Net<L = L>>(
     net: &mut N,
 ) -> Done<L>
     requires placed { CamePlaced (desk_now L.state desk.old) came (map S.history seats.old) }
+    ensures rooms { RoomsStay S.history (room_of S.kept_from S.spare) seats.old seats.new }
     ensures done { IsDone (desk_now L.state desk.new) (stage_now result.stage) (map S.history seats.new) result.waits result.left }
+    ensures touches { TouchesAll (desk_now L.state desk.old) came (map S.history seats.old) (N.state net.old) (map S.history seats.new) }
     ensures keeps { KeepsOver (desk_now L.state desk.old) (desk_now L.state desk.new) (map S.history seats.old) (map S.history seats.new)
         (N.state net.old) (N.state net.new) }
     ensures routed { (back : Back) → CameRouted back came → IsRoutedTo back (stage_now result.stage) }
+    ensures told { (d0 : DeskNow) (s0 : StageNow) → CameTells d0 s0 (desk_now L.state desk.old) came
+        → DoneTells d0 s0 (desk_now L.state desk.new) result.served result.left }
 {
     match came {
         Came::On(stage, waits) => Done {
@@ -581,11 +640,15 @@ pub(crate) fn advance<L: Link, S: Seat<Rested<L>>, N: Net<L = L>>(
     requires placed { IsPlaced (desk_now L.state desk.old) (stage_now stage) (map S.history seats.old) }
     requires routed { IsRoutedTo scene.back.now (stage_now stage) }
     requires loop_ { (N.state net.old).loop_no ≡ desk.old.worker.0 }
+    ensures rooms { RoomsStay S.history (room_of S.kept_from S.spare) seats.old seats.new }
     ensures done { IsDone (desk_now L.state desk.new) (stage_now result.stage) (map S.history seats.new) result.waits result.left }
+    ensures touches { SomeTouches desk.old.worker desk.old.session (first_of (desk_now L.state desk.old))
+        (map S.history seats.old) (map S.history seats.new) }
     ensures keeps { KeepsOver (desk_now L.state desk.old) (desk_now L.state desk.new) (map S.history seats.old) (map S.history seats.new)
         (N.state net.old) (N.state net.new) }
     ensures routed { IsRoutedTo scene.entry.back.now (stage_now result.stage) }
     ensures turn { turn.new < length scene.entry.back.now.servers }
+    ensures told { DoneTells (desk_now L.state desk.old) (stage_now stage) (desk_now L.state desk.new) result.served result.left }
 {
     let came = meet_deadline(desk, stage, seats, net, scene);
     let came = move_to_client(desk, came, seats, net, scene.now);

@@ -1,6 +1,7 @@
-use Rattle.std.proofs.Common.{◌≡◌, map, get_or, refl, sym, ap}
+use Rattle.std.proofs.Common.{get_or, refl}
 use Rattle.std.proofs.lemmas.List.{map-set}
-use Rattle.std.proofs.lemmas.Option.{slice_get-get_or}
+use Rattle.hx_connecting.specs.Journals.{room_of}
+use Rattle.hx_connecting.proofs.RoomLemmas.{room_by, rooms_set}
 use Rattle.hx_connecting.proofs.SeatLemmas.{seat_here}
 use Rattle.hx_connecting.proofs.choice.ask_seat.Goals as goal
 
@@ -10,3 +11,9 @@ returns-clause-asked g c =
     let seats = c.args.seats.now in
     let i = c.args.server.now.no.0 in
     (f (get_or seats i c.index-seats-server.result), f c.ready.new.self, _, seat_here f seats i c.index-seats-server.result c.requires, c.ready.ensures.answer, map-set f seats i c.ready.new.self, refl)
+
+pub returns-clause-rooms : goal.returns-clause-rooms
+returns-clause-rooms g c =
+    let f = g.S.HasHistory.history in
+    let room = room_of g.S.HasHistory.kept_from g.S.HasHistory.spare in
+    rooms_set f room c.args.seats.now c.args.server.now.no.0 c.index-seats-server.result c.ready.new.self c.requires (room_by _ _ _ _ _ _ _ c.ready.ensures.grows c.ready.ensures.kept)

@@ -1,4 +1,4 @@
-use Rattle.std.proofs.Common.{◌≡◌, ℕ, List, map, get_or, sym, ap, subst, ◌∙◌, refl, Some}
+use Rattle.std.proofs.Common.{◌≡◌, ◌<◌, ℕ, length, List, map, get_or, sym, ap, subst, ◌∙◌, Some}
 use Rattle.std.specs.List.{slice_get, slice_set}
 use Rattle.std.proofs.lemmas.List.{map-set}
 use Rattle.hx_base.specs.declared.numbers.ServerNo.{ServerNo}
@@ -6,7 +6,9 @@ use Rattle.hx_base.specs.declared.numbers.ConnId.{ConnId}
 use Rattle.hx_pool.specs.SeatView.{History}
 use Rattle.hx_connecting.specs.Connecting.{IsClosed}
 use Rattle.hx_connecting.specs.Closing.{ClosesAt}
-use Rattle.hx_connecting.proofs.SeatLemmas.{seat_at}
+use Rattle.hx_connecting.specs.Journals.{room_of}
+use Rattle.hx_connecting.proofs.RoomLemmas.{rooms_set}
+use Rattle.hx_connecting.proofs.SeatLemmas.{seat_at, seat_below}
 use Rattle.hx_connecting.proofs.AroundCalls.{busy_closed, busy_abouts, busy_loop}
 use Rattle.hx_connecting.proofs.closing.close_busy.Goals as goal
 
@@ -20,6 +22,7 @@ returns g c =
     let d = c.index-seats-server.result in
     let old : History = f (get_or seats i d) in
     let there : slice_get (map f seats) j ≡ Some old = subst (λ (k : ℕ). slice_get (map f seats) j ≡ Some (f (get_or seats k d))) (sym same) (seat_at f seats j _ d c.requires.has.1) in
+    let low : i < length seats = subst (λ (k : ℕ). k < length seats) (sym same) (seat_below f seats j _ c.requires.has.1) in
     let net = g.N.Net.state c.args.net.now in
     let net2 = g.N.Net.state c.close.new.net in
     let olds : List History = map f seats in
@@ -32,11 +35,13 @@ returns g c =
       between = g.N.Net.state c.end-link.new.net;
       detached = g.L.Link.state c.end-link.result;
       detaches = c.end-link.ensures.detaches;
-      closed = subst (λ (id : ConnId). IsClosed old (f c.close.new.seat) c.args.n id (g.N.Net.state c.end-link.new.net) net2 (g.L.Link.state c.end-link.result)) c.id-id.ensures c.close.ensures;
+      closed = subst (λ (id : ConnId). IsClosed old (f c.close.new.seat) c.args.n id (g.N.Net.state c.end-link.new.net) net2 (g.L.Link.state c.end-link.result)) c.id-id.ensures c.close.ensures.closed;
     } in
     record {
       closes = closes;
+      meaning = c.end-link.ensures.meaning;
       around = λ t a. busy_closed t c.args.n c.args.busy olds news net net2 closes a;
       abouts = busy_abouts j c.args.n c.args.busy.id c.args.busy.link olds news net net2 closes;
       loop_ = busy_loop j c.args.n c.args.busy.id c.args.busy.link olds news net net2 closes;
+      rooms = rooms_set f (room_of g.S.HasHistory.kept_from g.S.HasHistory.spare) seats i d c.close.new.seat low c.close.ensures.room;
     }

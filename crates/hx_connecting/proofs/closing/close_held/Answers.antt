@@ -1,4 +1,4 @@
-use Rattle.std.proofs.Common.{◌≡◌, ℕ, List, map, get_or, sym, ap, subst, ◌∙◌, refl, Some}
+use Rattle.std.proofs.Common.{◌≡◌, ◌<◌, ℕ, length, List, map, get_or, sym, ap, subst, ◌∙◌, Some}
 use Rattle.std.specs.List.{slice_get, slice_set}
 use Rattle.std.proofs.lemmas.List.{map-set}
 use Rattle.hx_base.specs.declared.numbers.ServerNo.{ServerNo}
@@ -8,7 +8,9 @@ use Rattle.hx_link.specs.Told.{LinkState}
 use Rattle.hx_pool.specs.SeatView.{History}
 use Rattle.hx_connecting.specs.Connecting.{IsClosed}
 use Rattle.hx_connecting.specs.Closing.{ClosesHeld}
-use Rattle.hx_connecting.proofs.SeatLemmas.{seat_at}
+use Rattle.hx_connecting.specs.Journals.{room_of}
+use Rattle.hx_connecting.proofs.RoomLemmas.{rooms_set}
+use Rattle.hx_connecting.proofs.SeatLemmas.{seat_at, seat_below}
 use Rattle.hx_connecting.proofs.AroundCalls.{held_closed, held_abouts, held_loop}
 use Rattle.hx_connecting.proofs.closing.close_held.Goals as goal
 
@@ -23,6 +25,7 @@ returns g c =
     let old : History = f (get_or seats i d) in
     let new : History = f c.close.new.seat in
     let there : slice_get (map f seats) j ≡ Some old = subst (λ (k : ℕ). slice_get (map f seats) j ≡ Some (f (get_or seats k d))) (sym same) (seat_at f seats j _ d c.requires.has.1) in
+    let low : i < length seats = subst (λ (k : ℕ). k < length seats) (sym same) (seat_below f seats j _ c.requires.has.1) in
     let net = g.N.Net.state c.args.net.now in
     let net2 = g.N.Net.state c.close.new.net in
     let olds : List History = map f seats in
@@ -33,11 +36,13 @@ returns g c =
       was = there;
       seats = map-set f seats i c.close.new.seat ∙ ap (λ (k : ℕ). slice_set (map f seats) k new) same;
       closed = subst (λ (l : LinkState). IsClosed old new c.args.n c.args.held.id net net2 l) c.end-link.ensures.link
-          (subst (λ (id : ConnId). IsClosed old new c.args.n id net net2 (g.L.Link.state c.end-link.result)) (ap (λ (x : Face). x.id) c.face.ensures) c.close.ensures);
+          (subst (λ (id : ConnId). IsClosed old new c.args.n id net net2 (g.L.Link.state c.end-link.result)) (ap (λ (x : Face). x.id) c.face.ensures) c.close.ensures.closed);
     } in
     record {
       closes = closes;
+      meaning = c.end-link.ensures.meaning;
       around = λ t a. held_closed t c.args.n c.args.held olds news net net2 closes a;
       abouts = held_abouts j c.args.n c.args.held.id c.args.held.link olds news net net2 closes;
       loop_ = held_loop j c.args.n c.args.held.id c.args.held.link olds news net net2 closes;
+      rooms = rooms_set f (room_of g.S.HasHistory.kept_from g.S.HasHistory.spare) seats i d c.close.new.seat low c.close.ensures.room;
     }

@@ -1,8 +1,10 @@
-use Rattle.std.proofs.Common.{◌≡◌, ℕ, List, map, get_or, Some}
-use Rattle.std.specs.List.{slice_get, slice_set}
+use Rattle.std.proofs.Common.{List, map, get_or}
+use Rattle.std.specs.List.{slice_set}
 use Rattle.std.proofs.lemmas.List.{map-set}
 use Rattle.hx_pool.specs.SeatView.{History}
 use Rattle.hx_connecting.specs.Closing.{ConnectsTo}
+use Rattle.hx_connecting.specs.Journals.{room_of}
+use Rattle.hx_connecting.proofs.RoomLemmas.{rooms_set}
 use Rattle.hx_connecting.proofs.SeatLemmas.{seat_here}
 use Rattle.hx_connecting.proofs.AroundCalls.{held_has, reached_around, reached_begun, reached_new, reached_abouts, reached_loop}
 use Rattle.hx_connecting.proofs.connecting.connect.Goals as goal
@@ -32,7 +34,7 @@ returns g c =
       new = new;
       was = seat_here f seats i d c.requires.seat;
       seats = map-set f seats i c.connect_at.new.seat;
-      tries = c.connect_at.ensures;
+      tries = c.connect_at.ensures.tries;
     } in
     record {
       connects = to;
@@ -41,4 +43,5 @@ returns g c =
       own = reached_begun olds news w.n w.first w.server w.now.0 w.method net net2 c.args.held c.connect_at.result c.requires.servers c.requires.has to;
       abouts = reached_abouts olds news w.n w.first w.server w.now.0 w.method net net2 c.args.held c.connect_at.result to;
       loop_ = reached_loop olds news w.n w.first w.server w.now.0 w.method net net2 c.args.held c.connect_at.result to;
+      rooms = rooms_set f (room_of g.S.HasHistory.kept_from g.S.HasHistory.spare) seats i d c.connect_at.new.seat c.requires.seat c.connect_at.ensures.room;
     }

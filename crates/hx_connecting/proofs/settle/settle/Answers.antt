@@ -1,9 +1,11 @@
-use Rattle.std.proofs.Common.{◌≡◌, ℕ, map, get_or, sym, ap, subst, ◌∙◌, refl, Some}
+use Rattle.std.proofs.Common.{◌≡◌, ◌<◌, ℕ, length, map, get_or, sym, ap, subst, ◌∙◌, Some}
 use Rattle.std.specs.List.{slice_get, slice_set}
 use Rattle.std.proofs.lemmas.List.{map-set}
 use Rattle.hx_base.specs.declared.numbers.ServerNo.{ServerNo}
 use Rattle.hx_pool.specs.SeatView.{History}
 use Rattle.hx_connecting.specs.Settling.{MaySettle, Settles}
+use Rattle.hx_connecting.specs.Journals.{room_of}
+use Rattle.hx_connecting.proofs.RoomLemmas.{rooms_set}
 use Rattle.hx_connecting.proofs.SeatLemmas.{seat_at}
 use Rattle.hx_connecting.proofs.AroundCalls.{settles_loop}
 use Rattle.hx_connecting.proofs.settle.settle.Goals as goal
@@ -46,4 +48,5 @@ returns g c =
     record {
       settles = settles;
       loop_ = settles_loop _ _ c.args.n c.args.rested net net2 c.settle_at.result settles;
+      rooms = rooms_set f (room_of g.S.HasHistory.kept_from g.S.HasHistory.spare) seats i d c.settle_at.new.seat (subst (λ (k : ℕ). k < length seats) (sym same) c.requires.seat) c.settle_at.ensures.room;
     }

@@ -1,4 +1,4 @@
-use Rattle.std.proofs.Common.{◌≡◌, ℕ, Bool, true, false, refl, sym, ap, subst, ◌∙◌, inl, inr}
+use Rattle.std.proofs.Common.{◌≡◌, true, false, sym, ap, subst, ◌∙◌, inl, inr}
 use Rattle.hx_base.specs.declared.rules.PoolRules.{PoolRules}
 use Rattle.hx_base.specs.declared.numbers.ConnId.{ConnId}
 use Rattle.hx_base.specs.declared.numbers.Face.{Face}
@@ -8,7 +8,9 @@ use Rattle.hx_conn.specs.WhatTold.{shown}
 use Rattle.hx_pool.specs.Parking.{Parks}
 use Rattle.hx_pool.specs.SeatView.{History}
 use Rattle.hx_connecting.specs.Connecting.{IsClosed}
-use Rattle.hx_connecting.specs.Settling.{MaySettle, SettlesAs, Settles, Shared}
+use Rattle.hx_connecting.specs.Journals.{room_of}
+use Rattle.hx_connecting.specs.Rooms.{RoomStays}
+use Rattle.hx_connecting.proofs.RoomLemmas.{room_by, room_both}
 use Rattle.hx_connecting.proofs.settle.settle_at.Goals.{in-Err, in_default}
 use Rattle.hx_connecting.proofs.settle.settle_at.Goals as goal
 
@@ -28,7 +30,7 @@ returns g c = record {
           let new : History = f c.match-park.seat in
           let closed : IsClosed mid (f w.close.new.seat) c.args.n v.id (net c.args.net.now) (net w.close.new.net) v.link =
           subst (λ (l : LinkState). IsClosed mid (f w.close.new.seat) c.args.n v.id (net c.args.net.now) (net w.close.new.net) l) w.end-link.ensures.link
-          (subst (λ (id : ConnId). IsClosed mid (f w.close.new.seat) c.args.n id (net c.args.net.now) (net w.close.new.net) (g.L.Link.state w.end-link.result)) (ap (λ (x : Face). x.id) w.face.ensures) w.close.ensures) in
+          (subst (λ (id : ConnId). IsClosed mid (f w.close.new.seat) c.args.n id (net c.args.net.now) (net w.close.new.net) (g.L.Link.state w.end-link.result)) (ap (λ (x : Face). x.id) w.face.ensures) w.close.ensures.closed) in
           inr (
             mid,
             w.in-Err.field-0.why,
@@ -48,4 +50,15 @@ returns g c = record {
           )
     ],
   );
+  room = elim c.match-park.branch [
+    | in-Err w ↦
+        let f = g.S.HasHistory.history in
+        let room = room_of g.S.HasHistory.kept_from g.S.HasHistory.spare in
+        subst (λ (s : g.row.S.Denot). RoomStays f room c.args.seat.now s) (sym w.seat-is)
+        (room_both _ _ _ _ _ _ (room_by _ _ _ _ _ _ _ c.park.ensures.grows c.park.ensures.kept) w.close.ensures.room)
+    | in_default w ↦
+        let f = g.S.HasHistory.history in
+        let room = room_of g.S.HasHistory.kept_from g.S.HasHistory.spare in
+        subst (λ (s : g.row.S.Denot). RoomStays f room c.args.seat.now s) (sym w.seat-is) (room_by _ _ _ _ _ _ _ c.park.ensures.grows c.park.ensures.kept)
+  ];
 }

@@ -1,8 +1,9 @@
-use Rattle.std.proofs.Common.{◌≡◌, ◌∙◌, List, map, sym, ap}
+use Rattle.std.proofs.Common.{◌∙◌, List, map, sym, ap, inr}
 use Rattle.hx_link.specs.Nets.{NetState}
 use Rattle.hx_pool.specs.SeatView.{History}
 use Rattle.hx_session.specs.declared.exchange.AnswerWay.{AnswerWay}
 use Rattle.hx_session.specs.Desks.{desk_now, DeskNow}
+use Rattle.hx_session.specs.Exchanged.{exchange_now}
 use Rattle.hx_session.specs.Over.{early_of}
 use Rattle.hx_session.proofs.RestLemmas.{rest_routed}
 use Rattle.hx_session.proofs.StandingLemmas.{place_in, place_then}
@@ -35,6 +36,14 @@ returns g c =
       goes = record {
         placed = c.after_pass.ensures.placed news passed.placed;
         keeps = place_then d0 d1 d2 olds news news net0 net1 net1 passed.keeps (place_in d1 d2 news net1 c.after_pass.ensures.keeps);
+        touches = inr (record {
+          touch = passed.touches.0;
+          may = (c.after_pass.ensures.touches d0 passed.touches.0 passed.touches.1).0;
+          counts = (c.after_pass.ensures.touches d0 passed.touches.0 passed.touches.1).1;
+          at = passed.touches.2;
+        });
         routed = λ back r. c.after_pass.ensures.routed back (rest_routed back c.args.exchange.busy.server c.pass-held.result.1 r.to_conn passed.server);
+        told = c.after_pass.ensures.told d0 (exchange_now c.args.exchange) c.is_closing-closing.ensures passed.gives passed.told;
       };
+      rooms = passed.rooms;
     }

@@ -1,9 +1,13 @@
-use Rattle.std.proofs.Common.{◌≡◌, List, map}
+use Rattle.std.proofs.Common.{List, map}
 use Rattle.hx_link.specs.Nets.{NetState}
 use Rattle.hx_pool.specs.SeatView.{History}
 use Rattle.hx_session.specs.Desks.{desk_now, DeskNow}
 use Rattle.hx_session.specs.Exchanged.{exchange_now, ExchangeNow}
-use Rattle.hx_session.proofs.PartLemmas.{went_on}
+use Rattle.hx_session.specs.Stages.{Exchanging}
+use Rattle.hx_connecting.specs.Journals.{room_of}
+use Rattle.hx_connecting.proofs.RoomLemmas.{rooms_none}
+use Rattle.hx_session.proofs.PartLemmas.{went_on, still_on}
+use Rattle.hx_session.proofs.TellLemmas.{still_same}
 use Rattle.hx_session.proofs.answers.go_on.Goals as goal
 
 pub returns-in-PassAsk : goal.returns-in-PassAsk
@@ -15,7 +19,10 @@ returns-in-PassAsk g c =
     let seats : List History = map g.S.HasHistory.history c.args.seats.now in
     let net : NetState = g.N.Net.state c.args.net.now in
     let p = c.pass_ask.ensures in
-    record { goes = went_on d d2 e e2 seats net c.goes_on.result c.requires.placed p.keeps p.conn p.carried p.good (c.goes_on.ensures.placed d2 seats) c.goes_on.ensures.routed }
+    record {
+      goes = went_on d d2 e e2 seats net c.goes_on.result c.requires.placed p.keeps p.conn p.carried p.good (c.goes_on.ensures.placed d2 seats) c.goes_on.ensures.routed (c.goes_on.ensures.told d d2 (Exchanging e) p.told);
+      rooms = rooms_none g.S.HasHistory.history (room_of g.S.HasHistory.kept_from g.S.HasHistory.spare) c.args.seats.now;
+    }
 
 pub returns-in-PassAnswer : goal.returns-in-PassAnswer
 returns-in-PassAnswer g c =
@@ -26,4 +33,19 @@ returns-in-PassAnswer g c =
     let seats : List History = map g.S.HasHistory.history c.args.seats.now in
     let net : NetState = g.N.Net.state c.args.net.now in
     let p = c.pass_answer.ensures in
-    record { goes = went_on d d2 e e2 seats net c.goes_on-in-PassAnswer.result c.requires.placed p.keeps p.conn p.carried p.good (c.goes_on-in-PassAnswer.ensures.placed d2 seats) c.goes_on-in-PassAnswer.ensures.routed }
+    record {
+      goes = went_on d d2 e e2 seats net c.goes_on-in-PassAnswer.result c.requires.placed p.keeps p.conn p.carried p.good (c.goes_on-in-PassAnswer.ensures.placed d2 seats) c.goes_on-in-PassAnswer.ensures.routed (c.goes_on-in-PassAnswer.ensures.told d d2 (Exchanging e) p.told);
+      rooms = rooms_none g.S.HasHistory.history (room_of g.S.HasHistory.kept_from g.S.HasHistory.spare) c.args.seats.now;
+    }
+
+pub returns-in-Nothing-clause-rooms : goal.returns-in-Nothing-clause-rooms
+returns-in-Nothing-clause-rooms g c = rooms_none g.S.HasHistory.history (room_of g.S.HasHistory.kept_from g.S.HasHistory.spare) c.args.seats.now
+
+pub returns-in-Nothing-clause-goes : goal.returns-in-Nothing-clause-goes
+returns-in-Nothing-clause-goes g c =
+    let d : DeskNow = desk_now g.L.Link.state c.args.desk.now in
+    let e : ExchangeNow = exchange_now c.args.exchange in
+    let seats : List History = map g.S.HasHistory.history c.args.seats.now in
+    let net : NetState = g.N.Net.state c.args.net.now in
+    let k = c.goes_on-in-Nothing.ensures in
+    still_on d e seats net c.goes_on-in-Nothing.result c.requires.placed k.conn (k.placed d seats) k.routed (k.told d d (Exchanging e) (still_same d (Exchanging e)))

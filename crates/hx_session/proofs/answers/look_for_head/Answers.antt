@@ -1,11 +1,16 @@
-use Rattle.std.proofs.Common.{◌≡◌, List, map, subst}
+use Rattle.std.proofs.Common.{List, map, sym, subst}
 use Rattle.hx_link.specs.Nets.{NetState}
 use Rattle.hx_link.specs.Pipes.{PipeNow}
 use Rattle.hx_pool.specs.SeatView.{History}
 use Rattle.hx_session.specs.Desks.{desk_now, DeskNow}
 use Rattle.hx_session.specs.Exchanged.{exchange_now, ExchangeNow}
-use Rattle.hx_session.specs.Standing.{KeepsAsk}
-use Rattle.hx_session.proofs.PartLemmas.{went_on}
+use Rattle.hx_session.specs.Stages.{Exchanging}
+use Rattle.hx_session.specs.Standing.{Goes, KeepsAsk}
+use Rattle.hx_session.specs.Telling.{IsStillTold}
+use Rattle.hx_connecting.specs.Journals.{room_of}
+use Rattle.hx_connecting.proofs.RoomLemmas.{rooms_none}
+use Rattle.hx_session.proofs.PartLemmas.{went_on, still_on}
+use Rattle.hx_session.proofs.TellLemmas.{still_same}
 use Rattle.hx_session.proofs.answers.look_for_head.Goals as goal
 
 pub returns-in-Interim : goal.returns-in-Interim
@@ -18,7 +23,11 @@ returns-in-Interim g c =
     let net : NetState = g.N.Net.state c.args.net.now in
     let s = c.spell_interim-spelled.ensures in
     let keeps : KeepsAsk d d2 = subst (λ (p : PipeNow). KeepsAsk (record d { down = p }) d2) c.look_down.ensures.same s.keeps in
-    record { goes = went_on d d2 e e2 seats net c.goes_on.result c.requires.placed keeps s.conn s.carried s.good (c.goes_on.ensures.placed d2 seats) c.goes_on.ensures.routed }
+    let still : IsStillTold d (Exchanging e) d2 (Exchanging e2) = subst (λ (p : PipeNow). IsStillTold (record d { down = p }) (Exchanging e) d2 (Exchanging e2)) c.look_down.ensures.same s.told in
+    record {
+      goes = went_on d d2 e e2 seats net c.goes_on.result c.requires.placed keeps s.conn s.carried s.good (c.goes_on.ensures.placed d2 seats) c.goes_on.ensures.routed (c.goes_on.ensures.told d d2 (Exchanging e) still);
+      rooms = rooms_none g.S.HasHistory.history (room_of g.S.HasHistory.kept_from g.S.HasHistory.spare) c.args.seats.now;
+    }
 
 pub returns-in-Final : goal.returns-in-Final
 returns-in-Final g c =
@@ -30,4 +39,21 @@ returns-in-Final g c =
     let net : NetState = g.N.Net.state c.args.net.now in
     let s = c.spell_final-spelled.ensures in
     let keeps : KeepsAsk d d2 = subst (λ (p : PipeNow). KeepsAsk (record d { down = p }) d2) c.look_down.ensures.same s.keeps in
-    record { goes = went_on d d2 e e2 seats net c.goes_on-in-Final.result c.requires.placed keeps s.conn s.carried s.good (c.goes_on-in-Final.ensures.placed d2 seats) c.goes_on-in-Final.ensures.routed }
+    let still : IsStillTold d (Exchanging e) d2 (Exchanging e2) = subst (λ (p : PipeNow). IsStillTold (record d { down = p }) (Exchanging e) d2 (Exchanging e2)) c.look_down.ensures.same s.told in
+    record {
+      goes = went_on d d2 e e2 seats net c.goes_on-in-Final.result c.requires.placed keeps s.conn s.carried s.good (c.goes_on-in-Final.ensures.placed d2 seats) c.goes_on-in-Final.ensures.routed (c.goes_on-in-Final.ensures.told d d2 (Exchanging e) still);
+      rooms = rooms_none g.S.HasHistory.history (room_of g.S.HasHistory.kept_from g.S.HasHistory.spare) c.args.seats.now;
+    }
+
+pub returns-else-exchange-clause-rooms : goal.returns-else-exchange-clause-rooms
+returns-else-exchange-clause-rooms g c = rooms_none g.S.HasHistory.history (room_of g.S.HasHistory.kept_from g.S.HasHistory.spare) c.args.seats.now
+
+pub returns-else-exchange-clause-goes : goal.returns-else-exchange-clause-goes
+returns-else-exchange-clause-goes g c =
+    let d : DeskNow = desk_now g.L.Link.state c.args.desk.now in
+    let e : ExchangeNow = exchange_now c.args.exchange in
+    let seats : List History = map g.S.HasHistory.history c.args.seats.now in
+    let net : NetState = g.N.Net.state c.args.net.now in
+    let k = c.goes_on-else-exchange.ensures in
+    let came = c.goes_on-else-exchange.result in
+    subst (λ (p : PipeNow). Goes d (Exchanging e) seats net (record d { down = p }) came seats net) (sym c.look_down.ensures.same) (still_on d e seats net came c.requires.placed k.conn (k.placed d seats) k.routed (k.told d d (Exchanging e) (still_same d (Exchanging e))))

@@ -1,4 +1,4 @@
-use Rattle.std.proofs.Common.{◌≡◌, sym, inl, ◌∙◌}
+use Rattle.std.proofs.Common.{sym, inl, ◌∙◌}
 use Rattle.std.proofs.lemmas.List.{nil_from_length}
 use Rattle.hx_session.specs.Desks.{desk_now}
 use Rattle.hx_session.specs.Exchanged.{exchange_now}

@@ -1,6 +1,5 @@
-use Rattle.std.proofs.Common.{◌≡◌, ◌+◌, ℕ, List, map, drop, length, sym, ap, subst, ◌∙◌, Some}
+use Rattle.std.proofs.Common.{◌≡◌, ℕ, List, map, drop, length, sym, ap, subst, ◌∙◌, Some}
 use Rattle.hx_base.specs.declared.numbers.SessionNo.{SessionNo}
-use Rattle.hx_base.specs.declared.numbers.ServerNo.{ServerNo}
 use Rattle.hx_conn.specs.Conns.{BusyNow}
 use Rattle.hx_link.specs.Pipes.{PipeNow, pipe}
 use Rattle.hx_pool.specs.SeatView.{History}
@@ -10,8 +9,10 @@ use Rattle.hx_connecting.specs.Sessions.{Exchanging}
 use Rattle.hx_connecting.proofs.BusyLemmas.{around_busy}
 use Rattle.hx_session.specs.Desks.{desk_now, DeskNow}
 use Rattle.hx_session.specs.Exchanged.{exchange_now, ExchangeNow}
-use Rattle.hx_session.specs.Over.{after_record}
 use Rattle.hx_session.proofs.RestLemmas.{rest_ready, passed_placed, passed_keeps, rests_to}
+use Rattle.hx_connecting.specs.Adding.{RestTouches}
+use Rattle.hx_connecting.proofs.AddedCalls.{rests_touches}
+use Rattle.hx_session.specs.Parting.{first_of}
 use Rattle.hx_session.proofs.answers.pass.Goals as goal
 
 pub end_answer-busy-requires : goal.end_answer-busy-requires
@@ -73,3 +74,29 @@ returns-clause-keeps g c =
 pub returns-clause-server : goal.returns-clause-server
 returns-clause-server g c =
     rests_to _ _ _ c.args.exchange.busy c.end_answer-busy.result _ _ c.rest-held.result (ap (λ (x : BusyNow). x.server) c.end_answer-busy.ensures.1) c.rest-held.ensures.rests
+
+pub returns-clause-gives : goal.returns-clause-gives
+returns-clause-gives g c =
+    let told = c.tell_passed-served.ensures.gives in
+    record {
+      took_to = told.took_to;
+      gives = record { to = told.gives.to; served = told.gives.served; number = told.gives.number; asked = told.gives.asked; given = told.gives.given };
+      client = told.client;
+    }
+
+pub returns-clause-touches : goal.returns-clause-touches
+returns-clause-touches g c =
+    let f = g.S.HasHistory.history in
+    let d : DeskNow = desk_now g.L.Link.state c.args.desk.now in
+    let d1 : DeskNow = desk_now g.L.Link.state c.tell_passed-served.new.desk in
+    let olds : List History = map f c.args.seats.now in
+    let news : List History = map f c.rest-held.new.seats in
+    let q = c.rest-held.result in
+    let b = c.args.exchange.busy in
+    let b2 = c.end_answer-busy.result in
+    let ends = c.end_answer-busy.ensures in
+    let session : d1.session ≡ d.session = ap (λ (x : DeskNow). x.session) c.tell_passed-served.ensures.next.desk in
+    let around : HasAround d.worker d1.session (Some (Exchanging b2)) olds =
+    around_busy d.worker d1.session b b2 olds (ap (λ (x : BusyNow). x.server) ends.1) (ap (λ (x : BusyNow). x.id) ends.1) (ap (λ (x : BusyNow). x.uses) ends.1)
+    (ap (λ (x : BusyNow). x.link.on_loop) ends.1) (subst (λ (n : SessionNo). HasAround d.worker n (Some (Exchanging b)) olds) (sym session) c.requires.placed.set.around) in
+    subst (λ (n : SessionNo). RestTouches d.worker n (first_of d) olds news q) session (rests_touches d.worker d1.session (first_of d) olds news b2 _ _ q around c.rest-held.ensures.rests)

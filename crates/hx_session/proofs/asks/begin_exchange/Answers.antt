@@ -1,6 +1,5 @@
-use Rattle.std.proofs.Common.{◌≡◌, ◌<◌, ◌+◌, ℕ, List, length, refl, sym, ap, subst, arith, None}
+use Rattle.std.proofs.Common.{refl}
 use Rattle.hx_link.specs.Pipes.{PipeNow}
-use Rattle.hx_conn.specs.Conns.{BusyNow}
 use Rattle.hx_session.specs.Desks.{desk_now, DeskNow}
 use Rattle.hx_session.specs.Exchanged.{exchange_now, ExchangeNow}
 use Rattle.hx_session.specs.Carried.{IsCarried}

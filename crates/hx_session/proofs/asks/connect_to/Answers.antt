@@ -1,8 +1,12 @@
-use Rattle.std.proofs.Common.{◌≡◌, List, map, subst, Option}
+use Rattle.std.proofs.Common.{List, map, inr, subst, Option, Bool}
 use Rattle.std.specs.Prelude.{Contains, IfSome}
 use Rattle.hx_base.specs.declared.numbers.ServerNo.{ServerNo}
 use Rattle.hx_pool.specs.SeatView.{History}
 use Rattle.hx_connecting.specs.Choosing.{servers_of}
+use Rattle.hx_connecting.specs.Closing.{ConnectsTo}
+use Rattle.hx_connecting.proofs.AddedCalls.{connects_touches}
+use Rattle.hx_session.specs.Parting.{first_of}
+use Rattle.hx_session.proofs.PartingLemmas.{first_is}
 use Rattle.hx_session.specs.Desks.{desk_now, DeskNow}
 use Rattle.hx_session.proofs.asks.connect_to.Goals as goal
 
@@ -10,13 +14,19 @@ pub returns : goal.returns
 returns g c =
     let d : DeskNow = desk_now g.L.Link.state c.args.desk.now in
     let news : List History = map g.S.HasHistory.history c.connect-connected.new.seats in
+    let olds : List History = map g.S.HasHistory.history c.args.seats.now in
     let set = c.requires.placed.set in
     let k = c.connect-connected.ensures in
     let a = c.after_connect.ensures in
+    let first : Bool = c.is_first.result in
+    let connects = subst (λ (b : Bool). ConnectsTo olds news d.session b c.args.to.0 c.args.to.2.0 c.args.choosing.asked.head.method (g.N.Net.state c.args.net.now) (g.N.Net.state c.connect-connected.new.net) c.args.choosing.held c.connect-connected.result) (first_is d first set.numbered.counted.one c.is_first.ensures) k.connects in
     record {
       comes = record {
         placed = a.placed news set.numbered (k.around d.worker set.around c.requires.loop_) k.own;
         keeps = record { desk = a.who; about = k.abouts; loop_no = k.loop_ };
+        touches = inr (connects_touches d.worker d.session (first_of d) c.args.to.0 olds news _ _ _ _ c.args.choosing.held c.connect-connected.result set.around connects);
         routed = λ back r. a.routed back news (subst (λ (o : Option ServerNo). IfSome o (λ v. Contains (servers_of back) v)) c.requires.chosen r.to_chosen) k.own;
+        told = a.told;
       };
+      rooms = k.rooms;
     }

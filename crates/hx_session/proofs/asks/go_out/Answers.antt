@@ -1,7 +1,9 @@
-use Rattle.std.proofs.Common.{◌≡◌, ◌<◌, ℕ, length, map, subst, Option}
+use Rattle.std.proofs.Common.{◌<◌, ℕ, length, map, subst, Option}
 use Rattle.std.specs.Prelude.{IfSome, Contains}
 use Rattle.hx_base.specs.declared.numbers.ServerNo.{ServerNo}
 use Rattle.hx_connecting.specs.Choosing.{servers_of}
+use Rattle.hx_connecting.specs.Journals.{room_of}
+use Rattle.hx_connecting.proofs.RoomLemmas.{rooms_none}
 use Rattle.hx_session.proofs.EntryLemmas.{routed_seat}
 use Rattle.hx_session.proofs.asks.go_out.Goals as goal
 
@@ -17,4 +19,7 @@ connect_to-requires-clause-seat g c =
     routed_seat back c.in-Some.server (length c.args.seats.now) c.requires.seats (subst (λ (o : Option ServerNo). IfSome o (λ v. Contains (servers_of back) v)) c.in-Some.is c.requires.routed.to_chosen)
 
 pub returns-in-None : goal.returns-in-None
-returns-in-None g c = record { comes = c.refuse.ensures.comes (map g.S.HasHistory.history c.args.seats.now) (g.N.Net.state c.args.net.now) c.requires.placed }
+returns-in-None g c = record {
+  comes = c.refuse.ensures.comes (map g.S.HasHistory.history c.args.seats.now) (g.N.Net.state c.args.net.now) c.requires.placed;
+  rooms = rooms_none g.S.HasHistory.history (room_of g.S.HasHistory.kept_from g.S.HasHistory.spare) c.args.seats.now;
+}

@@ -1,4 +1,4 @@
-use Rattle.std.proofs.Common.{ℕ, sym, subst}
+use Rattle.std.proofs.Common.{sym, subst}
 use Rattle.hx_session.specs.Ending.{HasOwnText}
 use Rattle.hx_session.proofs.OwnLemmas.{fault_text}
 use Rattle.hx_session.proofs.asks.read_head.Goals as goal

@@ -1,10 +1,13 @@
-use Rattle.std.proofs.Common.{◌≡◌, ◌≤◌, ℕ, List, map, sym, subst, arith, None}
-use Rattle.hx_conn.specs.Conns.{RestedNow}
+use Rattle.std.proofs.Common.{List, map, sym, subst, inr, arith, Some, None}
 use Rattle.hx_pool.specs.SeatView.{History}
+use Rattle.hx_connecting.specs.Touches.{Ends as Closes}
+use Rattle.hx_connecting.proofs.AddedCalls.{had, busy_touches}
+use Rattle.hx_session.specs.Parting.{first_of}
 use Rattle.hx_session.specs.Desks.{desk_now, DeskNow}
 use Rattle.hx_session.specs.Stages.{StageNow}
 use Rattle.hx_session.specs.Standing.{IsPlaced, IsRoutedTo}
 use Rattle.hx_session.proofs.StandingLemmas.{answers_keep, answers_set, gave_none}
+use Rattle.hx_session.proofs.TellLemmas.{answers_none}
 use Rattle.hx_session.proofs.ending.give_up.Goals as goal
 
 pub returns : goal.returns
@@ -13,6 +16,7 @@ returns g c =
     let d : DeskNow = desk_now g.L.Link.state c.args.desk.now in
     let d2 : DeskNow = desk_now g.L.Link.state c.answer-stage.new.desk in
     let news : List History = map f c.close_busy.new.seats in
+    let b = c.args.exchange.busy in
     let set = c.requires.set in
     let st = set.stands in
     let a = c.answer-stage.ensures.answers in
@@ -22,6 +26,14 @@ returns g c =
         placed = subst (λ (s : StageNow). IsPlaced d2 s news) (sym c.answer-stage.ensures.stage)
             (answers_set d d2 c.args.own.status None news a st.desk gave set.numbered (c.close_busy.ensures.around d.worker set.around) tt);
         keeps = record { desk = answers_keep d d2 c.args.own.status a; about = c.close_busy.ensures.abouts; loop_no = c.close_busy.ensures.loop_ };
+        touches = inr (record {
+          touch = Some (had b.server b.id Closes);
+          may = tt;
+          counts = tt;
+          at = busy_touches d.worker d.session (first_of d) _ b.server b.id (map f c.args.seats.now) news _ _ b.link set.around c.close_busy.ensures.closes;
+        });
         routed = λ back r. subst (λ (s : StageNow). IsRoutedTo back s) (sym c.answer-stage.ensures.stage) (record { to_conn = tt; to_chosen = tt });
+        told = answers_none d d2 c.args.own.status a;
       };
+      rooms = c.close_busy.ensures.rooms;
     }

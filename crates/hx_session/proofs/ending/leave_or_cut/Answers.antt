@@ -1,10 +1,14 @@
-use Rattle.std.proofs.Common.{◌≡◌, List, map, sym, subst}
+use Rattle.std.proofs.Common.{List, map, refl, sym, ap, subst, inl, inr}
 use Rattle.hx_pool.specs.SeatView.{History}
+use Rattle.hx_connecting.specs.Journals.{room_of}
+use Rattle.hx_connecting.proofs.RoomLemmas.{rooms_none}
 use Rattle.hx_session.specs.declared.stage.Stage.{Stage}
+use Rattle.hx_session.specs.Seen.{conn_seen}
 use Rattle.hx_session.specs.Desks.{desk_now, DeskNow}
 use Rattle.hx_session.specs.Stages.{stage_now}
 use Rattle.hx_session.specs.Standing.{IsPlaced, Goes}
 use Rattle.hx_session.proofs.StandingLemmas.{goes_ends, leaves_between, place_in, desk_none}
+use Rattle.hx_session.proofs.TellLemmas.{none_same}
 use Rattle.hx_session.proofs.ending.leave_or_cut.Goals as goal
 
 pub returns-in-Reading : goal.returns-in-Reading
@@ -13,7 +17,11 @@ returns-in-Reading g c =
     let seats : List History = map g.S.HasHistory.history c.args.seats.now in
     let net = g.N.Net.state c.args.net.now in
     let p = subst (λ (x : Stage g.row.L.Denot). IsPlaced d (stage_now x) seats) c.in-Reading.is c.requires.placed in
-    record { goes = goes_ends d d _ seats seats net net c.leave.result _ c.leave.ensures (place_in d d seats net (desk_none d)) (leaves_between d c.in-Reading.held seats p.set.stands p.set.numbered p.set.around p.set.own) }
+    record {
+      goes = goes_ends d d _ seats seats net net c.leave.result _ c.leave.ensures (place_in d d seats net (desk_none d)) (leaves_between d c.in-Reading.held seats p.set.stands p.set.numbered p.set.around p.set.own)
+          (inl (refl, refl, sym (ap (λ (x : Stage g.row.L.Denot). conn_seen (stage_now x)) c.in-Reading.is), tt)) (none_same d, inr (inl refl));
+      rooms = rooms_none g.S.HasHistory.history (room_of g.S.HasHistory.kept_from g.S.HasHistory.spare) c.args.seats.now;
+    }
 
 pub returns-in-Choosing : goal.returns-in-Choosing
 returns-in-Choosing g c =
@@ -21,7 +29,11 @@ returns-in-Choosing g c =
     let seats : List History = map g.S.HasHistory.history c.args.seats.now in
     let net = g.N.Net.state c.args.net.now in
     let p = subst (λ (x : Stage g.row.L.Denot). IsPlaced d (stage_now x) seats) c.in-Choosing.is c.requires.placed in
-    record { goes = goes_ends d d _ seats seats net net c.leave-in-Choosing.result _ c.leave-in-Choosing.ensures (place_in d d seats net (desk_none d)) (leaves_between d _ seats p.set.stands.0 p.set.numbered p.set.around p.set.own) }
+    record {
+      goes = goes_ends d d _ seats seats net net c.leave-in-Choosing.result _ c.leave-in-Choosing.ensures (place_in d d seats net (desk_none d)) (leaves_between d _ seats p.set.stands.0 p.set.numbered p.set.around p.set.own)
+          (inl (refl, refl, sym (ap (λ (x : Stage g.row.L.Denot). conn_seen (stage_now x)) c.in-Choosing.is), tt)) (none_same d, inr (inl refl));
+      rooms = rooms_none g.S.HasHistory.history (room_of g.S.HasHistory.kept_from g.S.HasHistory.spare) c.args.seats.now;
+    }
 
 pub returns-in-Answering : goal.returns-in-Answering
 returns-in-Answering g c =
@@ -30,4 +42,7 @@ returns-in-Answering g c =
     let seats : List History = map g.S.HasHistory.history c.args.seats.now in
     let net = g.N.Net.state c.args.net.now in
     let p = subst (λ (x : Stage g.row.L.Denot). IsPlaced d (stage_now x) seats) c.in-Answering.is c.requires.placed in
-    record { goes = subst (λ (x : Stage g.row.L.Denot). Goes d (stage_now x) seats net d2 c.leave_answering.result seats net) (sym c.in-Answering.is) (c.leave_answering.ensures.goes seats net p) }
+    record {
+      goes = subst (λ (x : Stage g.row.L.Denot). Goes d (stage_now x) seats net d2 c.leave_answering.result seats net) (sym c.in-Answering.is) (c.leave_answering.ensures.goes seats net p);
+      rooms = rooms_none g.S.HasHistory.history (room_of g.S.HasHistory.kept_from g.S.HasHistory.spare) c.args.seats.now;
+    }

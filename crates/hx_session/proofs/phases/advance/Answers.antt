@@ -5,10 +5,17 @@ use Rattle.hx_link.specs.Nets.{NetState}
 use Rattle.hx_pool.specs.SeatView.{History}
 use Rattle.hx_connecting.specs.Choice.{HaveSeats}
 use Rattle.hx_session.specs.Desks.{desk_now, DeskNow}
+use Rattle.hx_session.specs.Stages.{StageNow, stage_now}
 use Rattle.hx_session.specs.Standing.{KeepsPlace}
 use Rattle.hx_session.proofs.StandingLemmas.{place_then}
 use Rattle.hx_session.proofs.PartLemmas.{place_turn, over_then}
 use Rattle.hx_session.proofs.StepLemmas.{abouts_count}
+use Rattle.hx_connecting.specs.Journals.{room_of}
+use Rattle.hx_connecting.proofs.AddingLemmas.{holds_stand}
+use Rattle.hx_connecting.proofs.RoomLemmas.{rooms_both}
+use Rattle.hx_session.specs.Stages.{StageNow, stage_now}
+use Rattle.hx_session.specs.Seen.{conn_seen}
+use Rattle.hx_session.proofs.PartingLemmas.{parted}
 use Rattle.hx_session.proofs.phases.advance.Goals as goal
 
 pub do_phase-came-requires-clause-routed : goal.do_phase-came-requires-clause-routed
@@ -63,6 +70,13 @@ returns-clause-keeps g c =
     let k7 : KeepsPlace d0 d7 s0 s7 n0 n7 = place_then d0 d6 d7 s0 s6 s7 n0 n6 n7 k6 c.move_from_server-came.ensures.keeps in
     over_then d0 d7 d8 s0 s7 s8 n0 n7 n8 k7 c.conclude.ensures.keeps
 
+pub returns-clause-told : goal.returns-clause-told
+returns-clause-told g c =
+    let d : DeskNow = desk_now g.L.Link.state c.args.desk.now in
+    let s : StageNow = stage_now c.args.stage in
+    c.conclude.ensures.told d s (c.move_from_server-came.ensures.told d s (c.move_from_client-came.ensures.told d s (c.do_phase-came.ensures.told d s
+    (c.take_turn-came.ensures.told d (desk_now g.L.Link.state c.move_to_server-came.new.desk) s (c.move_to_server-came.ensures.told d s (c.move_to_client-came.ensures.told d s c.meet_deadline-came.ensures.goes.told))))))
+
 pub returns-clause-routed : goal.returns-clause-routed
 returns-clause-routed g c =
     let back = c.args.scene.back.now in
@@ -86,3 +100,56 @@ do_phase-came-requires-clause-seats g c =
     let about = c.take_turn-came.ensures.about ∙ (c.move_to_server-came.ensures.keeps.about ∙ (c.move_to_client-came.ensures.keeps.about ∙ c.meet_deadline-came.ensures.goes.keeps.about)) in
     let count : length news ≡ length olds = sym (length-map news f) ∙ (abouts_count (map f olds) (map f news) about ∙ length-map olds f) in
     subst (λ (n : ℕ). HaveSeats c.args.scene.back.now.servers n) (sym count) c.requires.seats
+
+pub returns-clause-touches : goal.returns-clause-touches
+returns-clause-touches g c =
+    let f = g.S.HasHistory.history in
+    let n = g.N.Net.state in
+    let d0 : DeskNow = desk_now g.L.Link.state c.args.desk.now in
+    let d1 : DeskNow = desk_now g.L.Link.state c.meet_deadline-came.new.desk in
+    let d3 : DeskNow = desk_now g.L.Link.state c.move_to_server-came.new.desk in
+    let s : StageNow = stage_now c.args.stage in
+    let hs : List History = map f c.args.seats.now in
+    let n0 : NetState = n c.args.net.now in
+    let k1 = c.meet_deadline-came.ensures.goes.keeps.desk.who in
+    let k2 = c.move_to_client-came.ensures.keeps.desk.who in
+    let k3 = c.move_to_server-came.ensures.keeps.desk.who in
+    let k5 = c.do_phase-came.ensures.keeps.desk.who in
+    let k6 = c.move_from_client-came.ensures.keeps.desk.who in
+    let k7 = c.move_from_server-came.ensures.keeps.desk.who in
+    let w2 = k2.worker ∙ k1.worker in
+    let w3 = k3.worker ∙ w2 in
+    let w5 = k5.worker ∙ w3 in
+    let w6 = k6.worker ∙ w5 in
+    let w7 = k7.worker ∙ w6 in
+    let m2 = k2.session ∙ k1.session in
+    let m3 = k3.session ∙ m2 in
+    let m5 = k5.session ∙ m3 in
+    let m6 = k6.session ∙ m5 in
+    let m7 = k7.session ∙ m6 in
+    let p1 = parted d0 d1 s hs (map f c.meet_deadline-came.new.seats) n0 (n c.meet_deadline-came.new.net) c.meet_deadline-came.result
+    (holds_stand d0.worker d0.session (conn_seen s) 0 hs c.requires.placed.set.around.holds) c.meet_deadline-came.ensures.goes.touches in
+    let p2 = c.move_to_client-came.ensures.touches d0 s hs n0 k1.worker k1.session p1 in
+    let p3 = c.move_to_server-came.ensures.touches d0 s hs n0 w2 m2 p2 in
+    let p4 = c.take_turn-came.ensures.touches d3 (n c.move_to_server-came.new.net) d0 s hs n0 w3 m3 p3 in
+    let p5 = c.do_phase-came.ensures.touches d0 s hs n0 w3 m3 p4 in
+    let p6 = c.move_from_client-came.ensures.touches d0 s hs n0 w5 m5 p5 in
+    let p7 = c.move_from_server-came.ensures.touches d0 s hs n0 w6 m6 p6 in
+    c.conclude.ensures.touches d0 s hs n0 w7 m7 p7
+
+pub returns-clause-rooms : goal.returns-clause-rooms
+returns-clause-rooms g c =
+    let f = g.S.HasHistory.history in
+    let r = room_of g.S.HasHistory.kept_from g.S.HasHistory.spare in
+    let a = c.args.seats.now in
+    let e8 = c.conclude.new.seats in
+    let s7 = c.move_from_server-came.new.seats in
+    let s6 = c.move_from_client-came.new.seats in
+    let s5 = c.do_phase-came.new.seats in
+    let s4 = c.take_turn-came.new.seats in
+    let s3 = c.move_to_server-came.new.seats in
+    let s2 = c.move_to_client-came.new.seats in
+    let s1 = c.meet_deadline-came.new.seats in
+    rooms_both f r a s1 e8 c.meet_deadline-came.ensures.rooms (rooms_both f r s1 s2 e8 c.move_to_client-came.ensures.rooms (rooms_both f r s2 s3 e8 c.move_to_server-came.ensures.rooms
+    (rooms_both f r s3 s4 e8 c.take_turn-came.ensures.rooms (rooms_both f r s4 s5 e8 c.do_phase-came.ensures.rooms (rooms_both f r s5 s6 e8 c.move_from_client-came.ensures.rooms
+    (rooms_both f r s6 s7 e8 c.move_from_server-came.ensures.rooms c.conclude.ensures.rooms))))))

@@ -1,5 +1,69 @@
+use Rattle.std.proofs.Common.{◌≡◌, List, map, refl, subst, inl}
+use Rattle.hx_link.specs.Nets.{NetState}
+use Rattle.hx_pool.specs.SeatView.{History}
+use Rattle.hx_session.specs.declared.moves.Move.{Move}
+use Rattle.hx_session.specs.declared.moves.Move.TheVariants.{Idle, Waits, Failed}
+use Rattle.hx_session.specs.Desks.{desk_now, DeskNow}
+use Rattle.hx_session.specs.Exchanged.{exchange_now, ExchangeNow}
+use Rattle.hx_session.specs.Stages.{Exchanging}
+use Rattle.hx_session.specs.Telling.{MoveTells}
 use Rattle.hx_session.proofs.OwnLemmas.{gateway_text}
+use Rattle.hx_session.proofs.StandingLemmas.{desk_none, place_in}
+use Rattle.hx_session.proofs.TellLemmas.{came_then, still_same}
+use Rattle.hx_connecting.specs.Journals.{room_of}
+use Rattle.hx_connecting.proofs.RoomLemmas.{rooms_none}
 use Rattle.hx_session.proofs.phases.after_server_move.Goals as goal
+
+idle_good : (m : Move) → m ≡ Idle → m ≡ Failed → ⊥
+idle_good m e f = cc
+
+waits_good : (m : Move) → m ≡ Waits → m ≡ Failed → ⊥
+waits_good m e f = cc
 
 pub lose_server-requires-clause-known : goal.lose_server-requires-clause-known
 lose_server-requires-clause-known g c = gateway_text
+
+pub returns-in-Failed-clause-told : goal.returns-in-Failed-clause-told
+returns-in-Failed-clause-told g c = λ d e t.
+    let d1 : DeskNow = desk_now g.L.Link.state c.args.desk.now in
+    let d2 : DeskNow = desk_now g.L.Link.state c.lose_server.new.desk in
+    let e1 : ExchangeNow = exchange_now c.args.exchange in
+    came_then d d1 d2 (Exchanging e) (Exchanging e1) c.lose_server.result (subst (λ (m : Move). MoveTells m d e d1 e1) c.in-Failed.is t) c.lose_server.ensures.goes.told
+
+pub returns-in-Idle-clause-goes : goal.returns-in-Idle-clause-goes
+returns-in-Idle-clause-goes g c =
+    let d : DeskNow = desk_now g.L.Link.state c.args.desk.now in
+    let seats : List History = map g.S.HasHistory.history c.args.seats.now in
+    let net : NetState = g.N.Net.state c.args.net.now in
+    record {
+      placed = record { set = c.requires.set; good = c.requires.good (idle_good c.args.call.0 c.in-Idle.is) };
+      keeps = place_in d d seats net (desk_none d);
+      touches = inl (refl, refl, refl, refl);
+      routed = λ back r. r;
+      told = still_same d (Exchanging (exchange_now c.args.exchange));
+    }
+
+pub returns-in-Waits-clause-goes : goal.returns-in-Waits-clause-goes
+returns-in-Waits-clause-goes g c =
+    let d : DeskNow = desk_now g.L.Link.state c.args.desk.now in
+    let seats : List History = map g.S.HasHistory.history c.args.seats.now in
+    let net : NetState = g.N.Net.state c.args.net.now in
+    record {
+      placed = record { set = c.requires.set; good = c.requires.good (waits_good c.args.call.0 c.in-Waits.is) };
+      keeps = place_in d d seats net (desk_none d);
+      touches = inl (refl, refl, refl, refl);
+      routed = λ back r. r;
+      told = still_same d (Exchanging (exchange_now c.args.exchange));
+    }
+
+pub returns-in-Bytes-clause-rooms : goal.returns-in-Bytes-clause-rooms
+returns-in-Bytes-clause-rooms g c = rooms_none g.S.HasHistory.history (room_of g.S.HasHistory.kept_from g.S.HasHistory.spare) c.args.seats.now
+
+pub returns-in-Ended-clause-rooms : goal.returns-in-Ended-clause-rooms
+returns-in-Ended-clause-rooms g c = rooms_none g.S.HasHistory.history (room_of g.S.HasHistory.kept_from g.S.HasHistory.spare) c.args.seats.now
+
+pub returns-in-Idle-clause-rooms : goal.returns-in-Idle-clause-rooms
+returns-in-Idle-clause-rooms g c = rooms_none g.S.HasHistory.history (room_of g.S.HasHistory.kept_from g.S.HasHistory.spare) c.args.seats.now
+
+pub returns-in-Waits-clause-rooms : goal.returns-in-Waits-clause-rooms
+returns-in-Waits-clause-rooms g c = rooms_none g.S.HasHistory.history (room_of g.S.HasHistory.kept_from g.S.HasHistory.spare) c.args.seats.now

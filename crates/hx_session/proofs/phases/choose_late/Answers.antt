@@ -2,6 +2,7 @@ use Rattle.std.proofs.Common.{refl, None}
 use Rattle.hx_session.specs.Desks.{desk_now, DeskNow}
 use Rattle.hx_session.specs.Stages.{stage_of_choosing}
 use Rattle.hx_session.proofs.PartLemmas.{goes_answering}
+use Rattle.hx_session.proofs.TellLemmas.{answers_none}
 use Rattle.hx_session.proofs.phases.choose_late.Goals as goal
 
 pub returns : goal.returns
@@ -10,5 +11,5 @@ returns g c = record {
       let d : DeskNow = desk_now g.L.Link.state c.args.desk.now in
       let d2 : DeskNow = desk_now g.L.Link.state c.answer-stage.new.desk in
       goes_answering d d2 (stage_of_choosing c.args.choosing) c.args.own.status c.args.choosing.held seats net c.answer-stage.result c.args.own.waits None refl c.requires.between p.set.numbered p.set.around p.set.own
-      c.answer-stage.ensures.stage c.answer-stage.ensures.answers;
+      c.answer-stage.ensures.stage c.answer-stage.ensures.answers (answers_none d d2 c.args.own.status c.answer-stage.ensures.answers);
 }

@@ -1,9 +1,15 @@
-use Rattle.std.proofs.Common.{◌≡◌, List, map, sym, subst}
+use Rattle.std.proofs.Common.{List, map, sym, subst}
 use Rattle.hx_pool.specs.SeatView.{History}
+use Rattle.hx_connecting.specs.Journals.{room_of}
+use Rattle.hx_connecting.proofs.RoomLemmas.{rooms_none}
 use Rattle.hx_session.specs.declared.stage.Stage.{Stage}
 use Rattle.hx_session.specs.Desks.{desk_now, DeskNow}
 use Rattle.hx_session.specs.Stages.{stage_now}
 use Rattle.hx_session.specs.Standing.{IsPlaced, Goes}
+use Rattle.std.proofs.Common.{None}
+use Rattle.hx_link.specs.Nets.{NetState}
+use Rattle.hx_session.specs.declared.stage.Came.TheVariants.{Moved}
+use Rattle.hx_session.proofs.PartLemmas.{goes_to}
 use Rattle.hx_session.proofs.phases.do_stage.Goals as goal
 
 pub returns-in-Reading : goal.returns-in-Reading
@@ -14,7 +20,10 @@ returns-in-Reading g c =
     let seats : List History = map f c.args.seats.now in
     let net = g.N.Net.state c.args.net.now in
     let p = subst (λ (x : Stage g.row.L.Denot). IsPlaced d (stage_now x) seats) c.in-Reading.is c.requires.placed in
-    record { goes = subst (λ (x : Stage g.row.L.Denot). Goes d (stage_now x) seats net d2 c.read_head.result seats net) (sym c.in-Reading.is) (c.read_head.ensures.goes seats net p) }
+    record {
+      goes = subst (λ (x : Stage g.row.L.Denot). Goes d (stage_now x) seats net d2 c.read_head.result seats net) (sym c.in-Reading.is) (c.read_head.ensures.goes seats net p);
+      rooms = rooms_none g.S.HasHistory.history (room_of g.S.HasHistory.kept_from g.S.HasHistory.spare) c.args.seats.now;
+    }
 
 pub returns-in-Answering : goal.returns-in-Answering
 returns-in-Answering g c =
@@ -24,4 +33,19 @@ returns-in-Answering g c =
     let seats : List History = map f c.args.seats.now in
     let net = g.N.Net.state c.args.net.now in
     let p = subst (λ (x : Stage g.row.L.Denot). IsPlaced d (stage_now x) seats) c.in-Answering.is c.requires.placed in
-    record { goes = subst (λ (x : Stage g.row.L.Denot). Goes d (stage_now x) seats net d2 c.end_answering.result seats net) (sym c.in-Answering.is) (c.end_answering.ensures.goes seats net p) }
+    record {
+      goes = subst (λ (x : Stage g.row.L.Denot). Goes d (stage_now x) seats net d2 c.end_answering.result seats net) (sym c.in-Answering.is) (c.end_answering.ensures.goes seats net p);
+      rooms = rooms_none g.S.HasHistory.history (room_of g.S.HasHistory.kept_from g.S.HasHistory.spare) c.args.seats.now;
+    }
+
+pub returns-in-Choosing-clause-goes : goal.returns-in-Choosing-clause-goes
+returns-in-Choosing-clause-goes g c =
+    let f = g.S.HasHistory.history in
+    let d : DeskNow = desk_now g.L.Link.state c.args.desk.now in
+    let d2 : DeskNow = desk_now g.L.Link.state c.go_out-stage.new.desk in
+    let olds : List History = map f c.args.seats.now in
+    let news : List History = map f c.go_out-stage.new.seats in
+    let net : NetState = g.N.Net.state c.args.net.now in
+    let net2 : NetState = g.N.Net.state c.go_out-stage.new.net in
+    subst (λ (x : Stage g.row.L.Denot). Goes d (stage_now x) olds net d2 (Moved c.go_out-stage.result c.args.scene.waits None) news net2) (sym c.in-Choosing.is)
+    (goes_to d d2 _ olds news net net2 c.go_out-stage.result c.args.scene.waits None c.go_out-stage.ensures.comes c.go_out-stage.ensures.comes.told)

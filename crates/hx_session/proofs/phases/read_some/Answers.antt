@@ -1,6 +1,9 @@
-use Rattle.std.proofs.Common.{◌≡◌, List, map}
+use Rattle.std.proofs.Common.{List, map}
 use Rattle.hx_link.specs.Nets.{NetState}
 use Rattle.hx_pool.specs.SeatView.{History}
+use Rattle.hx_connecting.proofs.AddingLemmas.{holds_stand}
+use Rattle.hx_session.specs.Seen.{conn_seen}
+use Rattle.hx_session.specs.Stages.{Exchanging}
 use Rattle.hx_session.specs.Desks.{desk_now, DeskNow}
 use Rattle.hx_session.specs.Exchanged.{exchange_now, ExchangeNow}
 use Rattle.hx_session.proofs.PartLemmas.{goes_from_exchange}
@@ -29,4 +32,7 @@ returns g c =
     let net : NetState = g.N.Net.state c.args.net.now in
     let net2 : NetState = g.N.Net.state c.after_server_move.new.net in
     let r = c.read_server-read.ensures in
-    record { goes = goes_from_exchange d d2 d3 e e2 olds news net net2 c.after_server_move.result r.keeps r.conn c.after_server_move.ensures.goes }
+    record {
+      goes = goes_from_exchange d d2 d3 e e2 olds news net net2 c.after_server_move.result (holds_stand d.worker d.session (conn_seen (Exchanging e)) 0 olds c.requires.placed.set.around.holds) r.keeps r.conn c.after_server_move.ensures.goes (c.after_server_move.ensures.told d e r.told);
+      rooms = c.after_server_move.ensures.rooms;
+    }

@@ -1,8 +1,12 @@
-use Rattle.std.proofs.Common.{◌≡◌, List, map, sym, subst}
+use Rattle.std.proofs.Common.{List, map, refl, subst, inl}
 use Rattle.hx_pool.specs.SeatView.{History}
+use Rattle.hx_connecting.specs.Journals.{room_of}
+use Rattle.hx_connecting.proofs.RoomLemmas.{rooms_none}
 use Rattle.hx_session.specs.Desks.{desk_now, DeskNow}
 use Rattle.hx_session.specs.Stages.{stage_now}
 use Rattle.hx_session.proofs.StandingLemmas.{place_in}
+use Rattle.hx_session.specs.declared.moves.Move.{Move}
+use Rattle.hx_session.proofs.TellLemmas.{DeskTells, reads_told}
 use Rattle.hx_session.proofs.PartLemmas.{took_placed, goes_from_desk}
 use Rattle.hx_session.proofs.ReadLemmas.{reads_keep}
 use Rattle.hx_session.proofs.phases.take_some.Goals as goal
@@ -18,8 +22,11 @@ returns-in-Bytes g c =
       goes = record {
         placed = took_placed d d2 (stage_now c.args.stage) c.args.at.now.0 m seats c.read_client.ensures.desk c.read_client.ensures.reads c.requires.wants c.requires.placed;
         keeps = place_in d d2 seats net (reads_keep d d2 c.args.at.now.0 m c.read_client.ensures.reads).desk;
+        touches = inl (refl, refl, refl, tt);
         routed = λ back r. r;
+        told = subst (λ (x : Move). DeskTells x d (stage_now c.args.stage) d2) c.in-Bytes.is (reads_told d d2 (stage_now c.args.stage) c.args.at.now.0 c.read_client.result c.read_client.ensures.reads);
       };
+      rooms = rooms_none g.S.HasHistory.history (room_of g.S.HasHistory.kept_from g.S.HasHistory.spare) c.args.seats.now;
     }
 
 pub returns-in-Ended : goal.returns-in-Ended
@@ -33,8 +40,11 @@ returns-in-Ended g c =
       goes = record {
         placed = took_placed d d2 (stage_now c.args.stage) c.args.at.now.0 m seats c.read_client.ensures.desk c.read_client.ensures.reads c.requires.wants c.requires.placed;
         keeps = place_in d d2 seats net (reads_keep d d2 c.args.at.now.0 m c.read_client.ensures.reads).desk;
+        touches = inl (refl, refl, refl, tt);
         routed = λ back r. r;
+        told = subst (λ (x : Move). DeskTells x d (stage_now c.args.stage) d2) c.in-Ended.is (reads_told d d2 (stage_now c.args.stage) c.args.at.now.0 c.read_client.result c.read_client.ensures.reads);
       };
+      rooms = rooms_none g.S.HasHistory.history (room_of g.S.HasHistory.kept_from g.S.HasHistory.spare) c.args.seats.now;
     }
 
 pub returns-in-Idle : goal.returns-in-Idle
@@ -48,8 +58,11 @@ returns-in-Idle g c =
       goes = record {
         placed = took_placed d d2 (stage_now c.args.stage) c.args.at.now.0 m seats c.read_client.ensures.desk c.read_client.ensures.reads c.requires.wants c.requires.placed;
         keeps = place_in d d2 seats net (reads_keep d d2 c.args.at.now.0 m c.read_client.ensures.reads).desk;
+        touches = inl (refl, refl, refl, (reads_keep d d2 c.args.at.now.0 m c.read_client.ensures.reads).number);
         routed = λ back r. r;
+        told = subst (λ (x : Move). DeskTells x d (stage_now c.args.stage) d2) c.in-Idle.is (reads_told d d2 (stage_now c.args.stage) c.args.at.now.0 c.read_client.result c.read_client.ensures.reads);
       };
+      rooms = rooms_none g.S.HasHistory.history (room_of g.S.HasHistory.kept_from g.S.HasHistory.spare) c.args.seats.now;
     }
 
 pub returns-in-Waits : goal.returns-in-Waits
@@ -63,8 +76,11 @@ returns-in-Waits g c =
       goes = record {
         placed = took_placed d d2 (stage_now c.args.stage) c.args.at.now.0 m seats c.read_client.ensures.desk c.read_client.ensures.reads c.requires.wants c.requires.placed;
         keeps = place_in d d2 seats net (reads_keep d d2 c.args.at.now.0 m c.read_client.ensures.reads).desk;
+        touches = inl (refl, refl, refl, (reads_keep d d2 c.args.at.now.0 m c.read_client.ensures.reads).number);
         routed = λ back r. r;
+        told = subst (λ (x : Move). DeskTells x d (stage_now c.args.stage) d2) c.in-Waits.is (reads_told d d2 (stage_now c.args.stage) c.args.at.now.0 c.read_client.result c.read_client.ensures.reads);
       };
+      rooms = rooms_none g.S.HasHistory.history (room_of g.S.HasHistory.kept_from g.S.HasHistory.spare) c.args.seats.now;
     }
 
 pub leave_or_cut-requires : goal.leave_or_cut-requires
@@ -84,5 +100,7 @@ returns-in-Failed g c =
     let news : List History = map f c.leave_or_cut.new.seats in
     record {
       goes = goes_from_desk d d2 d3 (stage_now c.args.stage) olds news (g.N.Net.state c.args.net.now) (g.N.Net.state c.leave_or_cut.new.net) c.leave_or_cut.result
-          (reads_keep d d2 c.args.at.now.0 c.read_client.result c.read_client.ensures.reads).desk c.leave_or_cut.ensures.goes;
+          (reads_keep d d2 c.args.at.now.0 c.read_client.result c.read_client.ensures.reads).desk (reads_keep d d2 c.args.at.now.0 c.read_client.result c.read_client.ensures.reads).number c.leave_or_cut.ensures.goes
+          (subst (λ (x : Move). DeskTells x d (stage_now c.args.stage) d2) c.in-Failed.is (reads_told d d2 (stage_now c.args.stage) c.args.at.now.0 c.read_client.result c.read_client.ensures.reads));
+      rooms = c.leave_or_cut.ensures.rooms;
     }

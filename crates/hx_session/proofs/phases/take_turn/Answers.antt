@@ -1,9 +1,15 @@
-use Rattle.std.proofs.Common.{◌≡◌, List, map, subst}
+use Rattle.std.proofs.Common.{List, map, subst}
 use Rattle.hx_pool.specs.SeatView.{History}
 use Rattle.hx_session.specs.declared.stage.Came.{Came}
-use Rattle.hx_session.specs.Stages.{stage_now}
+use Rattle.hx_session.specs.Stages.{StageNow, stage_now}
+use Rattle.hx_session.specs.Telling.{CameTells}
+use Rattle.hx_session.proofs.TellLemmas.{chooses_same, chosen_still}
 use Rattle.hx_session.specs.Standing.{CamePlaced, CameRouted}
 use Rattle.hx_session.proofs.GateLemmas.{in_placed, in_abouts, in_routed, in_turn_below}
+use Rattle.hx_session.specs.Parting.{Parted}
+use Rattle.hx_session.proofs.PartingLemmas.{turn_then}
+use Rattle.hx_connecting.specs.Journals.{room_of}
+use Rattle.hx_connecting.proofs.RoomLemmas.{rooms_none}
 use Rattle.hx_session.proofs.phases.take_turn.Goals as goal
 
 pub returns-clause-placed : goal.returns-clause-placed
@@ -30,3 +36,22 @@ returns-clause-turn g c =
     let f = g.S.HasHistory.history in
     in_turn_below c.args.back.now.servers c.args.turn.now c.choose_server.new.turn (map f c.args.seats.now) (map f c.choose_server.new.seats) (stage_now c.in-On.stage) (stage_now c.choose_server.result) c.choose_server.ensures.chooses
     c.requires.turn
+
+pub returns-clause-told : goal.returns-clause-told
+returns-clause-told g c = λ d0 d s0 t.
+    let f = g.S.HasHistory.history in
+    let s : StageNow = stage_now c.in-On.stage in
+    let s2 : StageNow = stage_now c.choose_server.result in
+    chosen_still d0 d s0 s s2 (subst (λ (x : Came g.row.L.Denot). CameTells d0 s0 d x) c.in-On.is t)
+    (chooses_same c.args.back.now.servers c.args.turn.now c.choose_server.new.turn (map f c.args.seats.now) (map f c.choose_server.new.seats) s s2 c.choose_server.ensures.chooses)
+
+pub returns-clause-touches : goal.returns-clause-touches
+returns-clause-touches g c = λ d net d0 s0 hs net0 t n p.
+    let f = g.S.HasHistory.history in
+    let olds : List History = map f c.args.seats.now in
+    let news : List History = map f c.choose_server.new.seats in
+    let on = subst (λ (x : Came g.row.L.Denot). Parted d0 s0 hs net0 d x olds net) c.in-On.is p in
+    turn_then d0 d s0 c.in-On.stage c.choose_server.result c.in-On.waits c.args.back.now.servers c.args.turn.now c.choose_server.new.turn hs olds news net0 net t n on c.choose_server.ensures.chooses
+
+pub returns-in_default-clause-rooms : goal.returns-in_default-clause-rooms
+returns-in_default-clause-rooms g c = rooms_none g.S.HasHistory.history (room_of g.S.HasHistory.kept_from g.S.HasHistory.spare) c.args.seats.now

@@ -1,6 +1,5 @@
-use Rattle.std.proofs.Common.{◌≡◌, ◌∙◌, ℕ, List, length, map, refl, sym, ap, subst}
+use Rattle.std.proofs.Common.{◌∙◌, ℕ, List, length, map, refl, sym, ap, subst, true, None}
 use Rattle.std.proofs.lemmas.List.{length-map}
-use Rattle.hx_base.specs.declared.numbers.ThreadNo.{ThreadNo}
 use Rattle.hx_config.specs.declared.config.Config.{Config}
 use Rattle.hx_config.specs.declared.parts.Back.{Back}
 use Rattle.hx_config.specs.Limits.{all_servers}
@@ -16,6 +15,15 @@ use Rattle.hx_session.specs.Stages.{StageNow, stage_now}
 use Rattle.hx_session.specs.Standing.{IsPlaced, IsRoutedTo}
 use Rattle.hx_session.proofs.ExitLemmas.{done_going, turns_set}
 use Rattle.hx_session.proofs.StepLemmas.{Enters, enters, goes_on_here, serves_on, turn_here}
+use Rattle.hx_session.specs.Seen.{session_seen}
+use Rattle.hx_session.specs.Telling.{DoneTells, StepTold}
+use Rattle.hx_session.proofs.ToldLemmas.{sound_one, step_told}
+use Rattle.hx_connecting.specs.Journals.{room_of}
+use Rattle.hx_connecting.proofs.AddingLemmas.{nothing, adds_no_touch, holds_stand}
+use Rattle.hx_connecting.proofs.RoomLemmas.{rooms_none, rooms_stay}
+use Rattle.hx_session.specs.Marking.{AddsMarks}
+use Rattle.hx_session.specs.Parting.{first_of}
+use Rattle.hx_session.proofs.PartingLemmas.{adds_marks, no_marks}
 use Rattle.hx_session.proofs.session.Session.step.Goals as goal
 
 pub advance-stage-requires : goal.advance-stage-requires
@@ -69,3 +77,48 @@ returns-clause-seats g c =
     let f = g.S.HasHistory.history in
     let keeps = c.advance-stage.ensures.keeps in
     serves_on c.args.self.now.worker c.args.self.now.worker (map f c.args.seats.now) (map f c.advance-stage.new.seats) (all_servers c.args.config.now.backs) refl keeps.about c.requires.seats
+
+pub returns-clause-tells : goal.returns-clause-tells
+returns-clause-tells g c = λ going.
+    let f = g.S.HasHistory.history in
+    let d : DeskNow = desk_now g.L.Link.state c.self.inside.desk in
+    let d2 : DeskNow = desk_now g.L.Link.state c.advance-stage.new.desk in
+    let s : StageNow = stage_now c.self.inside.stage in
+    let news : List History = map f c.advance-stage.new.seats in
+    let front = c.self.inside.front in
+    let done = c.advance-stage.result in
+    let some = sound_one d s c.self.invariant (ap (λ (x : SessionNow). x.over) c.self.view_is ∙ going) in
+    let told = subst (λ (x : Stage g.row.L.Denot). DoneTells d (stage_now x) d2 done.served done.left) c.replace-stage.ensures.value c.advance-stage.ensures.told in
+    subst (λ (x : SessionNow). StepTold x (session_seen front d2 (stage_now done.stage)) done.left done.served) c.self.view_is
+    (step_told front d d2 s (stage_now done.stage) news done.waits done.served done.left some told c.advance-stage.ensures.done)
+
+pub returns-clause-adds : goal.returns-clause-adds
+returns-clause-adds g c =
+    let f = g.S.HasHistory.history in
+    let d : DeskNow = desk_now g.L.Link.state c.self.inside.desk in
+    let s : StageNow = stage_now c.self.inside.stage in
+    let olds : List History = map f c.args.seats.now in
+    let news : List History = map f c.advance-stage.new.seats in
+    subst (λ (x : SessionNow). AddsMarks x olds news) c.self.view_is (adds_marks c.self.inside.front d s olds news c.advance-stage.ensures.touches)
+
+pub returns-clause-journals : goal.returns-clause-journals
+returns-clause-journals g c =
+    let f = g.S.HasHistory.history in
+    let d : DeskNow = desk_now g.L.Link.state c.self.inside.desk in
+    let t = c.advance-stage.ensures.touches in
+    rooms_stay f (room_of g.S.HasHistory.kept_from g.S.HasHistory.spare) d.worker d.session (first_of d) t.0 0 c.args.seats.now c.advance-stage.new.seats t.1.added c.advance-stage.ensures.rooms t.1.adds
+
+pub returns-then-is_over-clause-adds : goal.returns-then-is_over-clause-adds
+returns-then-is_over-clause-adds g c =
+    let s = c.args.self.now in
+    let seats : List History = map g.S.HasHistory.history c.args.seats.now in
+    no_marks s seats (holds_stand s.worker s.number s.conn 0 seats c.requires.holds)
+
+pub returns-then-is_over-clause-journals : goal.returns-then-is_over-clause-journals
+returns-then-is_over-clause-journals g c =
+    let f = g.S.HasHistory.history in
+    let r = room_of g.S.HasHistory.kept_from g.S.HasHistory.spare in
+    let s = c.args.self.now in
+    let seats : List History = map f c.args.seats.now in
+    rooms_stay f r s.worker s.number true None 0 c.args.seats.now c.args.seats.now (nothing seats) (rooms_none f r c.args.seats.now)
+    (adds_no_touch s.worker s.number true seats (holds_stand s.worker s.number s.conn 0 seats c.requires.holds))

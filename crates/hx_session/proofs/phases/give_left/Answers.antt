@@ -1,0 +1,27 @@
+use Rattle.std.proofs.Common.{sym, ap, subst, Some, List, map}
+use Rattle.hx_link.specs.Told.{LinkState}
+use Rattle.hx_record.specs.declared.served.Left.{Left}
+use Rattle.hx_session.specs.Desks.{desk_now, DeskNow}
+use Rattle.hx_session.specs.Telling.{DoneTells}
+use Rattle.hx_session.proofs.TellLemmas.{end_detached}
+use Rattle.hx_pool.specs.SeatView.{History}
+use Rattle.hx_session.proofs.PartingLemmas.{leaves_then}
+use Rattle.hx_session.proofs.phases.give_left.Goals as goal
+
+pub returns-clause-told : goal.returns-clause-told
+returns-clause-told g c = λ d0 s0 t.
+    let d : DeskNow = desk_now g.L.Link.state c.args.desk.now in
+    let d2 : DeskNow = desk_now g.L.Link.state c.let_go.new.desk in
+    let link = c.let_go.ensures.client in
+    subst (λ (l : Left). DoneTells d0 s0 d2 c.args.ending.served (Some l)) (sym c.leave.ensures)
+    (end_detached s0 d0 d d2 c.args.ending.served c.args.ending.cause c.let_go.ensures.desk
+    (record { taken = ap (λ (l : LinkState). l.taken) link; sent = ap (λ (l : LinkState). l.sent) link; ended = ap (λ (l : LinkState). l.told_end) link })
+    (ap (λ (l : LinkState). l.finished) link) t)
+
+pub returns-clause-touches : goal.returns-clause-touches
+returns-clause-touches g c = λ d0 s0 hs net0 t n p.
+    let f = g.S.HasHistory.history in
+    let d : DeskNow = desk_now g.L.Link.state c.args.desk.now in
+    let olds : List History = map f c.args.seats.now in
+    let news : List History = map f c.let_go.new.seats in
+    leaves_then d0 d s0 c.args.ending hs olds news net0 _ _ _ _ t n c.requires.leaving.around c.let_go.ensures.closes p
