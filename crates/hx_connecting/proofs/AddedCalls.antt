@@ -35,7 +35,7 @@ use Rattle.hx_connecting.proofs.ParkLemmas.{parks_seat, refused_end}
 use Rattle.hx_connecting.proofs.TouchLemmas.{closes_seat, connects_touch, marked_gate}
 use Rattle.hx_connecting.proofs.WantedLemmas.{OpenNone, connects_wanted}
 
-server_same : (a b : ServerNo) → a.0 ≡ b.0 → a ≡ b
+pub server_same : (a b : ServerNo) → a.0 ≡ b.0 → a ≡ b
 server_same a b e = let made : ℕ → ServerNo = λ k. record { 0 = k } in ap made e
 
 -- a connection that the session had, and where it went
@@ -56,7 +56,7 @@ touches_at t n first c x olds news old new a there is none s =
           (adds_touch t n first x olds old new s.added (holds_stand t n c 0 olds a.holds) there at.0 (seat_adds old new n first (touch_marks old.about.thread n first x) none s));
     }
 
-went_none : (t : ThreadNo) (n : SessionNo) (id : ConnId) (went : Went) → OpenNone (went_marks t n id went)
+pub went_none : (t : ThreadNo) (n : SessionNo) (id : ConnId) (went : Went) → OpenNone (went_marks t n id went)
 went_none t n id Stays = tt
 went_none t n id (Rests place uses) = (tt, tt)
 went_none t n id Ends = (tt, tt)
@@ -150,7 +150,7 @@ connects_touches t n first server olds news now m net net' None d a k =
     let here : k.old.about.server ≡ server = server_same k.old.about.server server (numbered_here 0 server.0 olds k.old k.was a.servers ∙ omega arith) in
     let x = connects_touch k.old k.new n first server now m net net' d here k.tries in
     connect_one t n first None server olds news k.old k.new now m net net' d a k.was k.seats k.tries x.touch x.at_server x.seat
-connects_touches t n first server olds news now m net net' (Some r) d a k = held_one t n first (resting (Some r)) server olds news k.old k.new r now m net net' d a k.was k.seats k.tries
+connects_touches t n first server olds news now m net net' (Some r) d a k = held_one t n first (resting (Some r)) server olds news k.old k.new r now m net net' d a k.was k.seats k.tries.1
 
 -- calls that touched no connection, and then others
 pub touches_then : (t : ThreadNo) (n : SessionNo) (first : Bool) (x y : Option Touch) (xs bs cs : List History) → x ≡ None → TouchesSeats t n first x xs bs → TouchesSeats t n first y bs cs → TouchesSeats t n first y xs cs

@@ -141,7 +141,7 @@ connects_loop old new n first server now m net net' c k = ⊎_elim
 pub reached_loop : {X : Type 0} (olds news : List History) (n : SessionNo) (first : Bool) (server : ServerNo) (now : ℕ) (m : MethodKind) (net net' : NetState) (held : Option RestedNow) (c : Connected X)
     → ConnectsTo olds news n first server now m net net' held c → net'.loop_no ≡ net.loop_no
 reached_loop olds news n first server now m net net' None c k = connects_loop k.old k.new n first server now m net net' c k.tries
-reached_loop olds news n first server now m net net' (Some r) c k = rested_loop k.old k.new n r now m net net' c k.tries
+reached_loop olds news n first server now m net net' (Some r) c k = rested_loop k.old k.new n r now m net net' c k.tries.1
 
 -- the server and the loop of a connection on which an exchange began
 rested_at : {X : Type 0} (mid new : History) (n : SessionNo) (server : ServerNo) (r : RestedNow) (now : ℕ) (m : MethodKind) (net net' : NetState) (c : Connected X)
@@ -208,7 +208,7 @@ reaches_any : {X : Type 0} (old new : History) (n : SessionNo) (first : Bool) (s
     → old.about.server ≡ server → IsAt server.0 (resting held) → StandsInOneHistory old → HasJust old n (resting held) → TriesFor old new n first server now m net net' held c
     → Reaches n server net.loop_no old new c
 reaches_any old new n first server now m net net' None c here at one just k = reaches_free old new n first server now m net net' c here just k
-reaches_any old new n first server now m net net' (Some r) c here at one just k = reaches_held old new n server r now m net net' c (server_same r.server server at) one just k
+reaches_any old new n first server now m net net' (Some r) c here at one just k = reaches_held old new n server r now m net net' c (server_same r.server server at) one just k.1
 
 reached_never : {X : Type 0} (c : Connected X) (h : History) → RestsNever (conn_after c) h
 reached_never (Begun busy fresh) h = tt
@@ -254,7 +254,7 @@ tries_about old new n first server now m net net' None c k = ⊎_elim
     (λ a. rested_about a.0 new n a.1 now m net net' c a.4 ∙ (one_seat old a.0 n first (shown a.1) a.2).seat.makes.makes.about)
     (λ b. opened_about b.0 new n server m net net' c b.2 ∙ (none_seat old b.0 n first b.1).makes.makes.about)
     k
-tries_about old new n first server now m net net' (Some r) c k = rested_about old new n r now m net net' c k
+tries_about old new n first server now m net net' (Some r) c k = rested_about old new n r now m net net' c k.1
 
 pub reached_abouts : {X : Type 0} (olds news : List History) (n : SessionNo) (first : Bool) (server : ServerNo) (now : ℕ) (m : MethodKind) (net net' : NetState) (held : Option RestedNow) (c : Connected X)
     → ConnectsTo olds news n first server now m net net' held c → abouts news ≡ abouts olds
@@ -303,7 +303,7 @@ tries_begun olds old new n first server now m net net' None c there here has k =
 tries_begun olds old new n first server now m net net' (Some r) c there here has k =
     let h = has.1.0 in
     let same : Some h ≡ Some old = sym has.1.1 ∙ (ap (λ (s : ServerNo). slice_get olds s.0) has.0 ∙ there) in
-    rested_begun old new n server r now m net net' c has.0 (subst (λ (q : History). HasConn q n r.id) (some_same h old same) has.1.2) k
+    rested_begun old new n server r now m net net' c has.0 (subst (λ (q : History). HasConn q n r.id) (some_same h old same) has.1.2) k.1
 
 begun_news : {X : Type 0} (olds : List History) (old new : History) (n : SessionNo) (server : ServerNo) (c : Connected X)
     → slice_get olds server.0 ≡ Some old → BegunAt new n server c → HasBegun (slice_set olds server.0 new) n server c
@@ -440,7 +440,7 @@ tries_new old new n first server now m net net' None c k = ⊎_elim
     (λ a. rested_new a.0 new n a.1 now m net net' c a.4)
     (λ b. opened_new b.0 new n server m net net' c b.2)
     k
-tries_new old new n first server now m net net' (Some r) c k = rested_new old new n r now m net net' c k
+tries_new old new n first server now m net net' (Some r) c k = rested_new old new n r now m net net' c k.1
 
 pub reached_new : {X : Type 0} (olds news : List History) (n : SessionNo) (first : Bool) (server : ServerNo) (now : ℕ) (m : MethodKind) (net net' : NetState) (held : Option RestedNow) (c : Connected X)
     → ConnectsTo olds news n first server now m net net' held c → BeginsNew m c

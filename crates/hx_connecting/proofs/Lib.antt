@@ -5,6 +5,10 @@ pub mod ConnectLemmas
 pub mod ChoiceLemmas
 pub mod WantLemmas
 pub mod WayLemmas
+pub mod WayStays
+pub mod NetLemmas
+pub mod TouchedCalls
+pub mod WayCalls
 pub mod TouchLemmas
 pub mod EachLemmas
 pub mod AddingLemmas

@@ -1,5 +1,7 @@
 -- The marks of a connection that a session parks, and of a park that was refused.
-use Rattle.std.proofs.Common.{◌≡◌, ℕ, ◌+◌, Bool, true, false, List, [], ◌∷◌, ◌++◌, refl, sym, ap, subst, ◌∙◌, inl, inr, append_assoc, ⊎_elim}
+use Rattle.std.proofs.Common.{◌≡◌, ℕ, ◌+◌, Bool, true, false, List, [], ◌∷◌, ◌++◌, refl, sym, ap, subst, ◌∙◌, inl, inr, arith, append_assoc, ⊎_elim}
+use Rattle.std.specs.Prelude.{Contains}
+use Rattle.std.proofs.lemmas.List.Elements.{Contains-append_right}
 use Rattle.hx_base.specs.declared.numbers.ThreadNo.{ThreadNo}
 use Rattle.hx_base.specs.declared.numbers.SessionNo.{SessionNo}
 use Rattle.hx_base.specs.declared.numbers.ConnId.{ConnId}
@@ -43,15 +45,27 @@ marked_tail t n place f tail s = ⊎_elim
 marked_gated : (n : SessionNo) (t : ThreadNo) (looks more : List Note) (ms : List Entry) → AllLooks t looks → Marked n more ms → Marked n (gated t looks more) ms
 marked_gated n t looks more ms l m = marked_both n looks (plain (Gate t false) ∷ more) [] ms (marked_looks n t looks l) (marked_both n (plain (Gate t false) ∷ []) more [] ms (marked_gate n t false) m)
 
-pub parks_seat : (old new : History) (n : SessionNo) (place : PlaceNo) (v : Shown) → Parks old new n place v → SeatMarks old new n (went_marks old.about.thread n v.face.id (Rests place v.face.uses))
-parks_seat old new n place v p =
+-- the park is among the entries
+pub record ParksAt (old new : History) (n : SessionNo) (place : PlaceNo) (v : Shown) : Type 0 where
+  pub seat : SeatMarks old new n (went_marks old.about.thread n v.face.id (Rests place v.face.uses))
+  pub there : Contains seat.added (parked old.about.thread n place v)
+
+pub parks_at : (old new : History) (n : SessionNo) (place : PlaceNo) (v : Shown) → Parks old new n place v → ParksAt old new n place v
+parks_at old new n place v p =
     let t = old.about.thread in let park : List Entry = Park t n v.face.id place v.face.uses ∷ [] in
+    let more : List Note = parked t n place v ∷ p.tail in
     record {
-      added = gated t p.looks (plain (Up t p.count) ∷ parked t n place v ∷ p.tail);
-      makes = p.makes;
-      marked = marked_gated n t p.looks (plain (Up t p.count) ∷ parked t n place v ∷ p.tail) park p.looked
-          (marked_both n (plain (Up t p.count) ∷ parked t n place v ∷ []) p.tail park [] (marked_park t n place v p.count) (marked_tail t n place v.face p.tail p.settles));
+      seat = record {
+        added = gated t p.looks (plain (Up t p.count) ∷ more);
+        makes = p.makes;
+        marked = marked_gated n t p.looks (plain (Up t p.count) ∷ more) park p.looked
+            (marked_both n (plain (Up t p.count) ∷ parked t n place v ∷ []) p.tail park [] (marked_park t n place v p.count) (marked_tail t n place v.face p.tail p.settles));
+      };
+      there = Contains-append_right p.looks (plain (Gate t false) ∷ plain (Up t p.count) ∷ more) (parked t n place v) (2, omega arith, refl);
     }
+
+pub parks_seat : (old new : History) (n : SessionNo) (place : PlaceNo) (v : Shown) → Parks old new n place v → SeatMarks old new n (went_marks old.about.thread n v.face.id (Rests place v.face.uses))
+parks_seat old new n place v p = (parks_at old new n place v p).seat
 
 -- behind a refused park the close
 ends : (old mid new : History) (n : SessionNo) (id : ConnId) (ms : List Entry) → SeatMarks old mid n ms → Closes mid new n id → SeatMarks old new n (ms ++ Close old.about.thread n id ∷ [])

@@ -104,7 +104,7 @@ none_some : {A : Type 0} {x : A} → None ≡ Some x → ⊥
 none_some e = cc
 
 -- a probe that the connection outlives moves no byte
-probe_counts : (r : RestedNow) (now : ℕ) (link : LinkState) → Probes r now link None → (link.sent_count ≡ r.link.sent_count) × (link.taken_count ≡ r.link.taken_count)
+pub probe_counts : (r : RestedNow) (now : ℕ) (link : LinkState) → Probes r now link None → (link.sent_count ≡ r.link.sent_count) × (link.taken_count ≡ r.link.taken_count)
 probe_counts r now link p = by_answer p.answer p.reads p.tells
   where
     by_answer : (answer : Got) → LinkReads r.link link now answer p.byte → None ≡ death_of answer → (link.sent_count ≡ r.link.sent_count) × (link.taken_count ≡ r.link.taken_count)
@@ -265,3 +265,6 @@ same_then a b c x y = record {
     by_told : (t : Option LinkTold) → IfSome t (λ k. (d : LinkTold) × (b.told ≡ Some d) × GrowsTold k d) → IfSome t (λ k. (e : LinkTold) × (c.told ≡ Some e) × GrowsTold k e)
     by_told None h = tt
     by_told (Some k) h = on k h.0 h.1 h.2
+
+pub same_self : (a : LinkState) → IsSameLink (what_of_link a) (what_of_link a)
+same_self a = same_of a a refl refl (omega arith) (stay a.sent) (stay a.taken) (λ e. e)

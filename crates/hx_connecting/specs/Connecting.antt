@@ -116,5 +116,6 @@ Connects old new n first server now method net_old net_new c =
 
 -- for a session that holds a connection which rests, or none
 abbrev pub TriesFor : {X : Type 0} → History → History → SessionNo → Bool → ServerNo → ℕ → MethodKind → NetState → NetState → Option RestedNow → Connected X → Type 0
-TriesFor old new n first server now method net_old net_new (Some r) c = TriesRested old new n r now method net_old net_new c
+TriesFor old new n first server now method net_old net_new (Some r) c =
+    IsRested r × TriesRested old new n r now method net_old net_new c
 TriesFor old new n first server now method net_old net_new None c = Connects old new n first server now method net_old net_new c

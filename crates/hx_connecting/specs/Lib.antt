@@ -15,3 +15,4 @@ pub mod Around
 pub mod Settling
 pub mod Touched
 pub mod Wanted
+pub mod Ways
