@@ -1,5 +1,5 @@
 -- A part of a step behind another, and behind a call of a link.
-use Rattle.std.proofs.Common.{◌≡◌, ℕ, List, refl, sym, ap, subst, ◌∙◌, inl, inr, arith, Option, Some}
+use Rattle.std.proofs.Common.{◌≡◌, ℕ, List, refl, sym, ap, subst, ◌∙◌, inl, inr, arith, Option, Some, None}
 use Rattle.std.specs.Prelude.{IfSome, Contains}
 use Rattle.hx_base.specs.declared.numbers.ServerNo.{ServerNo}
 use Rattle.hx_base.specs.declared.numbers.SessionNo.{SessionNo}
@@ -25,10 +25,12 @@ use Rattle.hx_session.proofs.ReadLemmas.{gives_keep, gives_stand, reads_keep, re
 use Rattle.hx_session.specs.Desks.{DeskNow, IsDesk}
 use Rattle.hx_session.specs.Ending.{HasOwn, AnswersOwn}
 use Rattle.hx_session.specs.Exchanged.{ExchangeNow}
-use Rattle.hx_session.specs.Parting.{PartTouches, came_conn}
+use Rattle.hx_connecting.specs.Ways.{GivesOwn, ExchangeStays, ToldStays}
+use Rattle.hx_session.specs.Parting.{PartTouches, CameKeeps, came_conn, came_served}
 use Rattle.hx_connecting.specs.Touched.{AllStand}
 use Rattle.hx_connecting.proofs.AddingLemmas.{holds_stand}
-use Rattle.hx_session.proofs.PartingLemmas.{part_from, parted, parted_from, parted_none, counts_same, stage_part}
+use Rattle.hx_session.proofs.PartingLemmas.{part_from, parted, parted_behind, parted_none, counts_same, stage_part, went_way}
+use Rattle.hx_session.proofs.StaysLemmas.{carries_told}
 use Rattle.hx_session.specs.Seen.{conn_seen}
 use Rattle.hx_session.specs.Stages.{StageNow, Exchanging, StandsSo, IsBetween, own_stage, stage_now}
 use Rattle.hx_session.specs.Standing.{CamePlaced, CameRouted, Goes, ComesTo, IsNumbered, IsSet, IsPlaced, KeepsDesk, KeepsAsk, KeepsPlace, KeepsOver, IsSameConn, IsRoutedTo}
@@ -82,42 +84,54 @@ conn_routed back e e' k r = record { to_conn = subst (λ (v : ServerNo). Contain
 
 -- a part that goes on from an exchange that went on
 pub goes_from_exchange : {X : Type 0} (d d' d2 : DeskNow) (e e' : ExchangeNow) (seats seats' : List History) (net net' : NetState) (c : Came X) → AllStand seats → KeepsAsk d d' → IsSameConn e e'
-    → Goes d' (Exchanging e') seats net d2 c seats' net' → CameTells d (Exchanging e) d2 c → Goes d (Exchanging e) seats net d2 c seats' net'
-goes_from_exchange d d' d2 e e' seats seats' net net' c all k same g told = record {
+    → ExchangeStays e.busy e'.busy → CameKeeps c e.busy e'.busy → Goes d' (Exchanging e') seats net d2 c seats' net' → CameTells d (Exchanging e) d2 c → Goes d (Exchanging e) seats net d2 c seats' net'
+goes_from_exchange d d' d2 e e' seats seats' net net' c all k same stays bytes g told = record {
   placed = g.placed;
   keeps = place_then d d' d2 seats seats seats' net net net' (place_in d d' seats net k.desk) g.keeps;
-  touches = inr (parted_from d d' d2 (Exchanging e) (Exchanging e') seats seats' net net' c k.desk.who.worker k.desk.who.session k.number (parted d' d2 (Exchanging e') seats seats' net net' c all g.touches));
+  touches = inr (parted_behind d d' d2 e e' seats seats' net net' c k.desk.who.worker k.desk.who.session k.number stays bytes (parted d' d2 (Exchanging e') seats seats' net net' c all g.touches));
   routed = λ back r. g.routed back (conn_routed back e e' same r);
   told = told;
 }
 
+-- no byte is moved on its link
+pub still_keeps : (d d' : DeskNow) (e e' : ExchangeNow) → IsStillTold d (Exchanging e) d' (Exchanging e') → ToldStays e.busy e'.busy
+still_keeps d d' e e' k =
+    let f = k.stage.0 in
+    let same : e' ≡ f = stage_same f e' (sym k.stage.1) in
+    subst (λ (x : ExchangeNow). ToldStays e.busy x.busy) (sym same) (carries_told e.busy.link f.busy.link k.stage.2.link)
+  where
+    stage_same : (x y : ExchangeNow) → Exchanging x ≡ Exchanging y → y ≡ x
+    stage_same x y z = cc
+
 -- an exchange that went on, after which the step goes on or is over
 pub went_on : {X : Type 0} (d d' : DeskNow) (e e' : ExchangeNow) (seats : List History) (net : NetState) (c : Came X) → IsPlaced d (Exchanging e) seats → KeepsAsk d d' → IsSameConn e e' → IsCarried d' e'
     → e'.busy.exchange.failed ≡ e.busy.exchange.failed → (IsPlaced d' (Exchanging e') seats → CamePlaced d' c seats) → ((back : Back) → IsRoutedTo back (Exchanging e') → CameRouted back c)
-    → CameTells d (Exchanging e) d' c → Goes d (Exchanging e) seats net d' c seats net
-went_on d d' e e' seats net c p k same carried failed placed routed told = record {
+    → CameTells d (Exchanging e) d' c → came_conn c ≡ conn_seen (Exchanging e') → came_served c ≡ None → ExchangeStays e.busy e'.busy → IsStillTold d (Exchanging e) d' (Exchanging e')
+    → Goes d (Exchanging e) seats net d' c seats net
+went_on d d' e e' seats net c p k same carried failed placed routed told conn none stays still = record {
   placed = placed (placed_on d d' e e' seats p k same carried failed);
   keeps = place_in d d' seats net k.desk;
-  touches = inr (parted_none d d' (Exchanging e) seats seats net net c (holds_stand d.worker d.session (conn_seen (Exchanging e)) 0 seats p.set.around.holds) refl (counts_same d d' c k.number));
+  touches = inr (parted_none d d' (Exchanging e) seats seats net net c (holds_stand d.worker d.session (conn_seen (Exchanging e)) 0 seats p.set.around.holds) refl (counts_same d d' c k.number)
+      (went_way c d.worker d.session e.busy e'.busy seats _ net conn none stays (still_keeps d d' e e' still)));
   routed = λ back r. routed back (conn_routed back e e' same r);
   told = told;
 }
 
 -- an exchange that is as it was
-pub still_on : {X : Type 0} (d : DeskNow) (e : ExchangeNow) (seats : List History) (net : NetState) (c : Came X) → IsPlaced d (Exchanging e) seats → came_conn c ≡ conn_seen (Exchanging e)
+pub still_on : {X : Type 0} (d : DeskNow) (e : ExchangeNow) (seats : List History) (net : NetState) (c : Came X) → IsPlaced d (Exchanging e) seats → came_conn c ≡ conn_seen (Exchanging e) → came_served c ≡ None
     → (IsPlaced d (Exchanging e) seats → CamePlaced d c seats) → ((back : Back) → IsRoutedTo back (Exchanging e) → CameRouted back c) → CameTells d (Exchanging e) d c
     → Goes d (Exchanging e) seats net d c seats net
-still_on d e seats net c p conn placed routed told =
-    record { placed = placed p; keeps = place_in d d seats net (desk_none d); touches = inl (refl, refl, conn, counts_same d d c refl); routed = routed; told = told }
+still_on d e seats net c p conn none placed routed told =
+    record { placed = placed p; keeps = place_in d d seats net (desk_none d); touches = inl (refl, refl, conn, counts_same d d c refl, subst (λ (o : Option Served). GivesOwn o (conn_seen (Exchanging e))) (sym none) tt); routed = routed; told = told }
 
 -- an own answer is decided outside of an exchange
-pub goes_answering : {X : Type 0} (d d' : DeskNow) (s : StageNow) (status : ℕ) (held : Option RestedNow) (seats : List History) (net : NetState) (stage : Stage X) (w : Waiting) (served : Option Served)
+pub goes_answering : {X : Type 0} (d d' : DeskNow) (s : StageNow) (status : ℕ) (held : Option RestedNow) (seats : List History) (net : NetState) (stage : Stage X) (w : Waiting)
     → conn_seen s ≡ resting held → IsBetween d → IsNumbered d → HasAround d.worker d.session (resting held) seats → HasHeld seats d.session held
-    → stage_now stage ≡ own_stage status held → AnswersOwn d d' status → TellsMoved s d d' served → Goes d s seats net d' (Moved stage w served) seats net
-goes_answering d d' s status held seats net stage w served conn between numbered around own is a told = record {
+    → stage_now stage ≡ own_stage status held → AnswersOwn d d' status → TellsMoved s d d' None → Goes d s seats net d' (Moved stage w None) seats net
+goes_answering d d' s status held seats net stage w conn between numbered around own is a told = record {
   placed = subst (λ (x : StageNow). IsPlaced d' x seats) (sym is) (answers_set d d' status held seats a between.anew.desk between.anew.given numbered around own);
   keeps = place_in d d' seats net (answers_keep d d' status a);
-  touches = inl (refl, refl, ap conn_seen is ∙ sym conn, tt);
+  touches = inl (refl, refl, ap conn_seen is ∙ sym conn, tt, tt);
   routed = λ back r. subst (λ (x : StageNow). IsRoutedTo back x) (sym is) (record {
     to_conn = subst (λ (c : Option seen.Holding). IfSome c (λ x. Contains (servers_of back) (seen.conn_server x))) conn r.to_conn;
     to_chosen = tt;
@@ -126,9 +140,9 @@ goes_answering d d' s status held seats net stage w served conn between numbered
 }
 
 -- a part that comes to another stage, and ends the step
-pub goes_to : {X : Type 0} (d d' : DeskNow) (s : StageNow) (seats seats' : List History) (net net' : NetState) (stage : Stage X) (w : Waiting) (served : Option Served)
-    → ComesTo d s seats net d' (stage_now stage) seats' net' → TellsMoved s d d' served → Goes d s seats net d' (Moved stage w served) seats' net'
-goes_to d d' s seats seats' net net' stage w served c told = record { placed = c.placed; keeps = c.keeps; touches = stage_part d d' s stage w served seats seats' net net' c.touches; routed = c.routed; told = told }
+pub goes_to : {X : Type 0} (d d' : DeskNow) (s : StageNow) (seats seats' : List History) (net net' : NetState) (stage : Stage X) (w : Waiting)
+    → ComesTo d s seats net d' (stage_now stage) seats' net' → TellsMoved s d d' None → Goes d s seats net d' (Moved stage w None) seats' net'
+goes_to d d' s seats seats' net net' stage w c told = record { placed = c.placed; keeps = c.keeps; touches = stage_part d d' s stage w seats seats' net net' c.touches; routed = c.routed; told = told }
 
 -- a stage after a call that gives, and after a read of the client
 pub gave_placed : (d d' : DeskNow) (s : StageNow) (now : ℕ) (m : Move) (seats : List History) → IsDesk d' → GivesClient d d' now m → IsPlaced d s seats → IsPlaced d' s seats

@@ -21,7 +21,7 @@ use Rattle.hx_session.specs.Seen.{conn_seen, over_seen, own_seen, session_seen}
 use Rattle.hx_session.specs.Stages.{StageNow, Reading, Choosing, Exchanging, Answering, Left, IsAnswering, own_stage}
 use Rattle.hx_session.specs.Standing.{IsDone, IsGone, IsSound}
 use Rattle.hx_session.specs.Stopping.{ServesAtStop, StopsKind}
-use Rattle.hx_session.specs.Telling.{CarriesSame, TellsOne, IsToldOwn, IsOfStage, LeavesWith, DoneTells, StopsStage, StopTells, KindTold, RecordTold, RecordsTold, LeavesWithout, StepTold, StopTold, finished_by, stopped}
+use Rattle.hx_session.specs.Telling.{CarriesSame, TellsOne, IsToldOwn, IsOfStage, LeavesWith, DoneTells, StopsStage, StopTells, KindTold, RecordTold, RecordsTold, conn_told, LeavesWithout, StepTold, StopTold, finished_by, stopped}
 use Rattle.hx_session.proofs.RecordLemmas.{told_stands}
 use Rattle.hx_session.proofs.TellLemmas.{link_same, link_then, own_of, told_on, own_on, plain_finish, reading_none, choosing_none, left_none}
 
@@ -35,7 +35,7 @@ sound_one d Left k e = cc
 
 -- a record of each kind, as the worker sees it
 kind_told : (front : ℕ) (d d' : DeskNow) (s : StageNow) (s' : SessionNow) (why : LeftCause) (r : Served) (k : Kind) → s'.client ≡ d'.client → CarriesSame d.client d'.client → IsOfStage s d why r k
-    → ((status : ℕ) → k ≡ kind.Own status → s'.own ≡ None) → KindTold (session_seen front d s) s' why r k
+    → ((status : ℕ) → k ≡ kind.Own status → s'.own ≡ None) → KindTold (session_seen front d s) s' (conn_told (conn_seen s)) why r k
 kind_told front d d' (Reading held) s' why r k is same h own = absurd (reading_none held d why r k h)
 kind_told front d d' (Choosing c) s' why r k is same h own = absurd (choosing_none c d why r k h)
 kind_told front d d' (Exchanging e) s' why r (kind.Passed c) is same h own = (
@@ -54,7 +54,7 @@ kind_told front d d' Left s' why r k is same h own = absurd (left_none d why r k
 
 -- the record as the worker sees it
 record_told : (front : ℕ) (d d' : DeskNow) (s s' : StageNow) (left : Option Leave) (r : Served) → 1 ≤ d.number → TellsOne d d' r → IsOfStage s d (leaves_for left) r r.kind
-    → ((status : ℕ) → r.kind ≡ kind.Own status → own_seen s' ≡ None) → EndsSession (ends_after r.kind) left → RecordTold (session_seen front d s) (session_seen front d' s') left r
+    → ((status : ℕ) → r.kind ≡ kind.Own status → own_seen s' ≡ None) → EndsSession (ends_after r.kind) left → RecordTold (session_seen front d s) (session_seen front d' s') (conn_told (conn_seen s)) left r
 record_told front d d' s s' left r some one of own ends = record {
   worker = one.worker;
   session = one.session;
@@ -80,7 +80,7 @@ ends_by None l x = absurd x
 ends_by (Some w) l x = (l, refl, x)
 
 records_told : (front : ℕ) (d d' : DeskNow) (s s' : StageNow) (served : Option Served) (left : Option Leave) → 1 ≤ d.number → DoneTells d s d' served left
-    → ((l : Leave) → left ≡ Some l → own_seen s' ≡ None) → RecordsTold (session_seen front d s) (session_seen front d' s') left served
+    → ((l : Leave) → left ≡ Some l → own_seen s' ≡ None) → RecordsTold (session_seen front d s) (session_seen front d' s') (conn_told (conn_seen s)) left served
 records_told front d d' s s' None None some t own = record { served = ap (λ (n : ℕ). n - 1) t.number; asked = t.ask_from; given = t.gave_from }
 records_told front d d' s s' None (Some l) some t own = record { served = ap (λ (n : ℕ). n - 1) t.0.number; asked = t.0.ask_from; given = t.0.gave_from }
 records_told front d d' s s' (Some r) None some t own =
@@ -169,7 +169,7 @@ stop_own d d1 status held r a is next = (
 )
 
 stop_record : (front : ℕ) (d d1 d' : DeskNow) (s : StageNow) (r : Served) (left : Leave) → 1 ≤ d.number → left.cause ≡ cause.Stop → CarriesSame d1.client d'.client → StopTells s d d1 (Some r)
-    → RecordTold (session_seen front d s) (stopped (session_seen front d s) d'.client (Some r)) (Some left) r
+    → RecordTold (session_seen front d s) (stopped (session_seen front d s) d'.client (Some r)) (conn_told (conn_seen s)) (Some left) r
 stop_record front d d1 d' s r left some stop same t = record {
   worker = t.0.worker;
   session = t.0.session;
@@ -185,7 +185,7 @@ stop_record front d d1 d' s r left some stop same t = record {
 }
 
 stop_records : (front : ℕ) (d d1 d' : DeskNow) (s : StageNow) (served : Option Served) (left : Leave) → 1 ≤ d.number → left.cause ≡ cause.Stop → CarriesSame d1.client d'.client → StopTells s d d1 served
-    → RecordsTold (session_seen front d s) (stopped (session_seen front d s) d'.client served) (Some left) served
+    → RecordsTold (session_seen front d s) (stopped (session_seen front d s) d'.client served) (conn_told (conn_seen s)) (Some left) served
 stop_records front d d1 d' s None left some stop same t = record { served = refl; asked = refl; given = refl }
 stop_records front d d1 d' s (Some r) left some stop same t = stop_record front d d1 d' s r left some stop same t
 

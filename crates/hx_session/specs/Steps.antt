@@ -18,7 +18,7 @@ use Rattle.hx_session.specs.Causes.{Limits, CanBeLate}
 use Rattle.hx_session.specs.Doings.{Doing, IsSameSession, IsSameNet}
 use Rattle.hx_session.specs.Deciding.{StepsForCause}
 use Rattle.hx_connecting.specs.Holds.{HoldsAt}
-use Rattle.hx_session.specs.Touching.{Touches, after_of, event_of}
+use Rattle.hx_session.specs.Touching.{Touches, ClosesForCauses, after_of, event_of}
 
 -- the first step reads the client's link, unless a deadline has come
 abbrev pub ReadsFirst : SessionNow → SessionNow → Type 0
@@ -92,6 +92,7 @@ pub record SessionSteps (config : Meaning) (limits : Limits) (s s' : SessionNow)
   pub same : IsSameSession s s'
   pub added : List (List Note)
   pub touches : StepTouches (doing s s' before after added r)
+  pub closes : ClosesForCauses (doing s s' before after added r) touches.touch touches.touched
   pub chooses : StepChooses config (doing s s' before after added r) touches.touch
   pub tells : StepTells config limits (doing s s' before after added r) now chooses.chose touches.touch touches.touched
   pub moving : StepMoves limits (doing s s' before after added r) now r touches.touch

@@ -162,6 +162,7 @@ StopTells s d d' (Some r) =
 -- the record of an exchange that passed is given, and the next one begins behind it
 pub record GivesPassed (d d' : DeskNow) (e : ExchangeNow) (r : Served) : Type 0 where
   pub took_to : ℕ
+  pub counted : took_to ≡ e.busy.exchange.taken_from + e.answered
   pub gives : GivesRecord d d' (kind.Passed (carried_of e took_to)) r
   pub client : d'.client ≡ d.client
 
@@ -170,28 +171,28 @@ abbrev pub conn_told : Option Holding → Option What
 conn_told None = None
 conn_told (Some c) = Some (what_of_link (conn_link c))
 
--- a record of each kind is true of the client's link as the call leaves it, and of the connection's as it stood before, since with a
--- record no byte is moved; of a cut one only whose it is
-abbrev pub KindTold : SessionNow → SessionNow → LeftCause → Served → Kind → Type 0
-KindTold s s' why r (kind.Passed c) = KindStands s s' (conn_told s.conn) why r (kind.Passed c)
-KindTold s s' why r (kind.Cut c w) = ItsExchange s c
-KindTold s s' why r (kind.Own status) = KindStands s s' (conn_told s.conn) why r (kind.Own status)
+-- a record of each kind is true of the client's link as the call leaves it, and of what the connection's tells; of a cut one only whose
+-- it is
+abbrev pub KindTold : SessionNow → SessionNow → Option What → LeftCause → Served → Kind → Type 0
+KindTold s s' conn why r (kind.Passed c) = KindStands s s' conn why r (kind.Passed c)
+KindTold s s' conn why r (kind.Cut c w) = ItsExchange s c
+KindTold s s' conn why r (kind.Own status) = KindStands s s' conn why r (kind.Own status)
 
-pub record RecordTold (s s' : SessionNow) (left : Option Leave) (r : Served) : Type 0 where
+pub record RecordTold (s s' : SessionNow) (conn : Option What) (left : Option Leave) (r : Served) : Type 0 where
   pub worker : r.worker ≡ s.worker
   pub session : r.session ≡ s.number
   pub number : r.number ≡ s.served + 1
   pub ask : r.ask.from ≡ s.asked
   pub gave : r.gave.from ≡ s.gave
-  pub kind : KindTold s s' (leaves_for left) r r.kind
+  pub kind : KindTold s s' conn (leaves_for left) r r.kind
   pub served : s'.served ≡ s.served + 1
   pub asked : s'.asked ≡ r.ask.to
   pub given : s'.gave ≡ r.gave.to
   pub ends : EndsSession (ends_after r.kind) left
 
-abbrev pub RecordsTold : SessionNow → SessionNow → Option Leave → Option Served → Type 0
-RecordsTold s s' left None = NoRecord s s'
-RecordsTold s s' left (Some r) = RecordTold s s' left r
+abbrev pub RecordsTold : SessionNow → SessionNow → Option What → Option Leave → Option Served → Type 0
+RecordsTold s s' conn left None = NoRecord s s'
+RecordsTold s s' conn left (Some r) = RecordTold s s' conn left r
 
 -- a session leaves without a record at its client's end or failure, or at a deadline, alone
 abbrev pub LeavesWithout : Option Served → Option Leave → Type 0
@@ -200,7 +201,7 @@ LeavesWithout served left = ⊤
 
 -- the record and the end that a step gives, and that it finishes the client's link behind a closing answer and nowhere else
 pub record StepTold (s s' : SessionNow) (left : Option Leave) (served : Option Served) : Type 0 where
-  pub records : RecordsTold s s' left served
+  pub records : RecordsTold s s' (conn_told s.conn) left served
   pub leaves : Leaves s' left
   pub without : LeavesWithout served left
   pub finished : s'.client.finished ≡ finished_by left s.client.finished
@@ -222,7 +223,7 @@ stopped s client (Some r) = record s {
 
 -- the record and the end that a stop gives; it doesn't finish the client's link
 pub record StopTold (s : SessionNow) (client : LinkState) (left : Leave) (served : Option Served) : Type 0 where
-  pub records : RecordsTold s (stopped s client served) (Some left) served
+  pub records : RecordsTold s (stopped s client served) (conn_told s.conn) (Some left) served
   pub leaves : LeftStands (stopped s client served) left
   pub serves : ServesAtStop s s.conn s.own served
   pub kind : IfSome served (λ r. StopsKind s r.kind)

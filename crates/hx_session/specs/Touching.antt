@@ -9,8 +9,7 @@ use Rattle.hx_connecting.specs.Links.{LinkGoes, NoLinkGoes}
 use Rattle.hx_connecting.specs.Closings.{Call, ClosesFor}
 use Rattle.hx_connecting.specs.Exchanges.{ExchangeGoes, PassedEnds}
 use Rattle.hx_session.specs.Causes.{ServerEvent}
-use Rattle.hx_record.specs.declared.served.Kind.{Kind}
-use Rattle.hx_record.specs.declared.served.Kind.TheVariants as kind
+use Rattle.hx_connecting.specs.Ways.{IsOwn}
 use Rattle.hx_session.specs.Doings.{Doing, AtServer}
 
 -- the closing in a call behind these entries of it, seen by the cause
@@ -29,23 +28,22 @@ closing_call d h es x before after = record {
   left = d.left;
 }
 
--- its link goes its way, its exchange too, and a closing of it has a cause
+-- its link goes its way, and its exchange too
 pub record TouchesOne (d : Doing) (x : Touch) : Type 0 where
   pub at : AtServer d x.server
   pub goes : LinkGoes d.old d.new at.history at.es d.before.net d.after.net x
   pub exchange : ExchangeGoes d.old d.new x x.went goes.before d.served
   pub passed : IfSome d.served (λ r. PassedEnds d.old x goes.after r.kind)
-  pub closes : ClosesForCause (λ n id before. ClosesFor (closing_call d at.history before x goes.before goes.after)) [] at.es
-
--- a record that names no connection
-abbrev pub IsOwn : Kind → Type 0
-IsOwn (kind.Passed c) = ⊥
-IsOwn (kind.Cut c why) = ⊥
-IsOwn (kind.Own status) = ⊤
 
 abbrev pub Touches : Doing → Option Touch → Type 0
 Touches d None = NoLinkGoes d.old d.new d.before.net d.after.net × IfSome d.served (λ r. IsOwn r.kind)
 Touches d (Some x) = TouchesOne d x
+
+-- a closing of it has a cause
+abbrev pub ClosesForCauses : (d : Doing) (x : Option Touch) → Touches d x → Type 0
+ClosesForCauses d None t = ⊤
+ClosesForCauses d (Some x) t =
+    ClosesForCause (λ n id before. ClosesFor (closing_call d t.at.history before x t.goes.before t.goes.after)) [] t.at.es
 
 -- what the link of the touched connection tells after the call, and what happened to it
 abbrev pub after_of : (d : Doing) (x : Option Touch) → Touches d x → Option What

@@ -1,6 +1,6 @@
 //! What a step does in an exchange.
 
-ghost use Rattle.std.specs.Prelude.{◌≡◌, ◌⊎◌, ◌↔◌, ◌+◌, ◌≤◌, ◌||◌, ◌&&◌, not, IsTrue, List, map, Option, None};
+ghost use Rattle.std.specs.Prelude.{◌≡◌, ◌⊎◌, ◌↔◌, ◌+◌, ◌≤◌, ◌||◌, ◌&&◌, not, IsTrue, List, map, Option, Some, None};
 ghost use Rattle.httparse.specs.Grammar as grammar;
 ghost use Rattle.hx_config.specs.declared.parts.Back.{Back};
 ghost use Rattle.hx_link.specs.Links.{LinkFinishes};
@@ -19,11 +19,13 @@ ghost use Rattle.hx_session.specs.Finishing.{MayDo, DoesAtEnd, IsAnswerGiven, Wa
 ghost use Rattle.hx_session.specs.Passing.{PassesBody, BeginsBody};
 ghost use Rattle.hx_session.specs.Seen.{conn_seen};
 ghost use Rattle.hx_session.specs.Stages.{StageNow, Reading, Exchanging};
-ghost use Rattle.hx_connecting.specs.Adding.{RestTouches};
+ghost use Rattle.hx_connecting.specs.Ways.{ExchangeStays, RestWay};
+ghost use Rattle.hx_connecting.specs.Sessions.{Exchanging as OnConn};
+ghost use Rattle.hx_conn.specs.Conns.{IsBusy};
 ghost use Rattle.hx_connecting.specs.Journals.{room_of};
 ghost use Rattle.hx_connecting.specs.Rooms.{RoomsStay};
 ghost use Rattle.hx_connecting.specs.Touches.{Touch};
-ghost use Rattle.hx_session.specs.Parting.{MayTouch, CountsOn, came_conn, first_of};
+ghost use Rattle.hx_session.specs.Parting.{MayTouch, CountsOn, RestsSo, came_conn, came_served, first_of};
 ghost use Rattle.hx_session.specs.Standing.{IsPlaced, CamePlaced, IsRoutedTo, CameRouted, KeepsDesk, KeepsAsk, IsSameConn, KeepsPlace, Goes};
 ghost use Rattle.hx_session.specs.Telling.{IsStillTold, GivesPassed, CameTells};
 
@@ -185,6 +187,7 @@ fn pass_ask<L: Link>(desk: &mut Desk<L>, exchange: &mut Exchange<L>)
     requires going { exchange.old.ask.state ≡ Going }
     ensures carried { IsCarried (desk_now L.state desk.new) (exchange_now exchange.new) }
     ensures conn { IsSameConn (exchange_now exchange.old) (exchange_now exchange.new) }
+    ensures stays { ExchangeStays exchange.old.busy exchange.new.busy }
     ensures good { exchange.new.busy.exchange.failed ≡ exchange.old.busy.exchange.failed }
     ensures keeps { KeepsAsk (desk_now L.state desk.old) (desk_now L.state desk.new) }
     ensures told { IsStillTold (desk_now L.state desk.old) (Exchanging (exchange_now exchange.old))
@@ -218,6 +221,7 @@ fn pass_answer<L: Link>(desk: &mut Desk<L>, exchange: &mut Exchange<L>, now: Mil
     requires carried { IsCarried (desk_now L.state desk.old) (exchange_now exchange.old) }
     ensures carried { IsCarried (desk_now L.state desk.new) (exchange_now exchange.new) }
     ensures conn { IsSameConn (exchange_now exchange.old) (exchange_now exchange.new) }
+    ensures stays { ExchangeStays exchange.old.busy exchange.new.busy }
     ensures good { exchange.new.busy.exchange.failed ≡ exchange.old.busy.exchange.failed }
     ensures keeps { KeepsAsk (desk_now L.state desk.old) (desk_now L.state desk.new) }
     ensures told { IsStillTold (desk_now L.state desk.old) (Exchanging (exchange_now exchange.old))
@@ -273,6 +277,7 @@ fn spell_interim<L: Link>(
     requires head { IsInterimAt desk.old.down.bytes head.now }
     ensures carried { IsCarried (desk_now L.state desk.new) (exchange_now exchange.new) }
     ensures conn { IsSameConn (exchange_now exchange.old) (exchange_now exchange.new) }
+    ensures stays { ExchangeStays exchange.old.busy exchange.new.busy }
     ensures good { exchange.new.busy.exchange.failed ≡ exchange.old.busy.exchange.failed }
     ensures keeps { KeepsAsk (desk_now L.state desk.old) (desk_now L.state desk.new) }
     ensures told { IsStillTold (desk_now L.state desk.old) (Exchanging (exchange_now exchange.old))
@@ -300,6 +305,7 @@ fn spell_final<L: Link>(
     requires answered { (g : grammar.ResponseHead) × IsAnswerTo exchange.old.busy.exchange.method desk.old.down.bytes answered.now g }
     ensures carried { IsCarried (desk_now L.state desk.new) (exchange_now exchange.new) }
     ensures conn { IsSameConn (exchange_now exchange.old) (exchange_now exchange.new) }
+    ensures stays { ExchangeStays exchange.old.busy exchange.new.busy }
     ensures good { exchange.new.busy.exchange.failed ≡ exchange.old.busy.exchange.failed }
     ensures keeps { KeepsAsk (desk_now L.state desk.old) (desk_now L.state desk.new) }
     ensures told { IsStillTold (desk_now L.state desk.old) (Exchanging (exchange_now exchange.old))
@@ -321,6 +327,7 @@ fn spell_final<L: Link>(
 fn goes_on<L: Link>(exchange: Exchange<L>, waits: Waiting, moved: bool) -> Came<L>
     ensures placed { (d : DeskNow) (seats : List History) → IsPlaced d (Exchanging (exchange_now exchange)) seats → CamePlaced d result seats }
     ensures conn { came_conn result ≡ conn_seen (Exchanging (exchange_now exchange)) }
+    ensures none { came_served result ≡ None }
     ensures routed { (back : Back) → IsRoutedTo back (Exchanging (exchange_now exchange)) → CameRouted back result }
     ensures told { (d0 d : DeskNow) (s0 : StageNow) → IsStillTold d0 s0 d (Exchanging (exchange_now exchange))
         → CameTells d0 s0 d result }
@@ -396,7 +403,8 @@ fn lasts(persists: bool, to_end: bool) -> bool
 /// The whole answer was taken.
 fn end_answer<L: Link>(exchange: Exchange<L>) -> Busy<L>
     requires { WasOver (exchange_now exchange) }
-    ensures { EndsAnswer exchange.busy result exchange.answered }
+    ensures ends { EndsAnswer exchange.busy result exchange.answered }
+    ensures meaning { IsBusy result }
 {
     let Exchange {
         mut busy,
@@ -408,6 +416,8 @@ fn end_answer<L: Link>(exchange: Exchange<L>) -> Busy<L>
         let persistent = lasts(body.persists, body.to_end);
         busy.answer_ends(answered, persistent);
     }
+    // It says that the link's counts are those of its bytes.
+    let _nth = busy.nth();
     busy
 }
 
@@ -425,8 +435,8 @@ fn pass<L: Link, S: Seat<Rested<L>>, N: Net<L = L>>(
     ensures placed { IsPlaced (desk_now L.state desk.new) (Reading result.1) (map S.history seats.new) }
     ensures keeps { KeepsPlace (desk_now L.state desk.old) (desk_now L.state desk.new) (map S.history seats.old) (map S.history seats.new)
         (N.state net.old) (N.state net.new) }
-    ensures touches { RestTouches desk.old.worker desk.old.session (first_of (desk_now L.state desk.old))
-        (map S.history seats.old) (map S.history seats.new) result.1 }
+    ensures touches { RestWay desk.old.worker desk.old.session (first_of (desk_now L.state desk.old)) (Some (OnConn exchange.busy))
+        (map S.history seats.old) (map S.history seats.new) (N.state net.old) (N.state net.new) result.1 (Some result.0) }
     ensures server { RestsTo exchange.busy.server result.1 }
     ensures gives { GivesPassed (desk_now L.state desk.old) (desk_now L.state desk.new) (exchange_now exchange) result.0 }
 {
@@ -478,6 +488,7 @@ fn after_pass<L: Link>(
     ensures placed { (seats : List History) → IsPlaced (desk_now L.state desk.old) (Reading held) seats → CamePlaced (desk_now L.state desk.new) result seats }
     ensures touches { (d : DeskNow) (x : Option Touch) → (x ≡ None) ⊎ (held ≡ None)
         → MayTouch result x × CountsOn d (desk_now L.state desk.new) result }
+    ensures rests { RestsSo result held served }
     ensures keeps { KeepsDesk (desk_now L.state desk.old) (desk_now L.state desk.new) }
     ensures routed { (back : Back) → IsRoutedTo back (Reading held) → CameRouted back result }
     ensures told { (d : DeskNow) (e : ExchangeNow) → closing ≡ closing_of e.answer

@@ -13,7 +13,8 @@ ghost use Rattle.hx_connecting.specs.Closing.{ClosesAt};
 ghost use Rattle.hx_connecting.specs.Sessions.{Exchanging as OnConn};
 ghost use Rattle.hx_connecting.specs.Journals.{room_of};
 ghost use Rattle.hx_connecting.specs.Rooms.{RoomsStay};
-ghost use Rattle.hx_session.specs.Parting.{PartTouches};
+ghost use Rattle.hx_session.specs.Parting.{PartTouches, StopCloses};
+ghost use Rattle.hx_conn.specs.Conns.{IsBusy};
 ghost use Rattle.hx_session.specs.declared.stage.Came.TheVariants.{Ends};
 ghost use Rattle.hx_session.specs.Desks.{desk_now, IsDesk};
 ghost use Rattle.hx_session.specs.Exchanged.{exchange_now};
@@ -126,6 +127,7 @@ pub(crate) fn cut_off<L: Link, S: Seat<Rested<L>>, N: Net<L = L>>(
     ensures cuts { CutsOff (desk_now L.state desk.old) (desk_now L.state desk.new) (exchange_now exchange) cause result }
     ensures closes { ClosesAt (map S.history seats.old) (map S.history seats.new) exchange.busy.server.0
         desk.old.session exchange.busy.id (N.state net.old) (N.state net.new) exchange.busy.link }
+    ensures meaning { IsBusy exchange.busy }
     ensures around { (t : ThreadNo) → HasAround t desk.old.session (Some (OnConn exchange.busy)) (map S.history seats.old)
         → HasAround t desk.old.session None (map S.history seats.new) }
     ensures about { abouts (map S.history seats.new) ≡ abouts (map S.history seats.old) }
@@ -291,6 +293,8 @@ pub(crate) fn stop_stage<L: Link, S: Seat<Rested<L>>, N: Net<L = L>>(
         (N.state net.old) (N.state net.new) }
     ensures touches { PartTouches (desk_now L.state desk.old) (stage_now stage) (map S.history seats.old) (N.state net.old)
         (desk_now L.state desk.new) (Ends result) (map S.history seats.new) (N.state net.new) }
+    ensures closes { StopCloses (stage_now stage) desk.old.session (map S.history seats.old) (map S.history seats.new)
+        (N.state net.old) (N.state net.new) result.held }
     ensures client { L.state desk.new.client ≡ L.state desk.old.client }
     ensures cause { result.cause ≡ left_cause.Stop }
     ensures told { StopTells (stage_now stage) (desk_now L.state desk.old) (desk_now L.state desk.new) result.served }

@@ -18,8 +18,9 @@ ghost use Rattle.hx_session.specs.Stages.{StageNow, Left as Gone, Reading, Excha
 ghost use Rattle.hx_session.specs.Standing.{IsCounted, IsPlaced, CamePlaced, IsRoutedTo, CameRouted, KeepsPlace, KeepsOver, Goes, IsDone, IsGone, IsLeaving, IsSet};
 ghost use Rattle.hx_session.specs.Still.{WantsClient};
 ghost use Rattle.hx_session.specs.Telling.{MoveTells, CameTells, TellsEnd, DoneTells};
-ghost use Rattle.hx_connecting.specs.Adding.{SomeTouches};
-ghost use Rattle.hx_session.specs.Parting.{LetsGo, TouchesOn, TouchesAll, first_of};
+ghost use Rattle.hx_connecting.specs.Ways.{SomeWay};
+ghost use Rattle.hx_session.specs.Parting.{CameKeeps, LetsGo, TouchesOn, TouchesAll, first_of};
+ghost use Rattle.hx_session.specs.Seen.{conn_seen};
 ghost use Rattle.hx_session.specs.declared.stage.Came.TheVariants.{Ends};
 
 use crate::answers::{At, go_on};
@@ -257,6 +258,8 @@ fn after_server_move<L: Link, S: Seat<Rested<L>>, N: Net<L = L>>(
         (desk_now L.state desk.new) result (map S.history seats.new) (N.state net.new) }
     ensures told { (d : DeskNow) (e : ExchangeNow) → MoveTells call.0 d e (desk_now L.state desk.old) (exchange_now exchange)
         → CameTells d (Exchanging e) (desk_now L.state desk.new) result }
+    ensures keeps { (d : DeskNow) (e : ExchangeNow) → MoveTells call.0 d e (desk_now L.state desk.old) (exchange_now exchange)
+        → CameKeeps result e.busy exchange.busy }
 {
     let (moved, at) = call;
     match moved {
@@ -565,7 +568,8 @@ fn give_left<L: Link, S: Seat<Rested<L>>, N: Net<L = L>>(
     requires leaving { IsLeaving (desk_now L.state desk.old) ending.held (map S.history seats.old) }
     ensures rooms { RoomsStay S.history (room_of S.kept_from S.spare) seats.old seats.new }
     ensures stage { stage_now result.stage ≡ Gone }
-    ensures touches { TouchesAll (desk_now L.state desk.old) (Ends ending) (map S.history seats.old) (N.state net.old) (map S.history seats.new) }
+    ensures touches { TouchesAll (desk_now L.state desk.old) (Ends ending) (map S.history seats.old) (N.state net.old)
+        (stage_now result.stage) result.served (map S.history seats.new) (N.state net.new) }
     ensures done { IsDone (desk_now L.state desk.new) (stage_now result.stage) (map S.history seats.new) result.waits result.left }
     ensures keeps { KeepsOver (desk_now L.state desk.old) (desk_now L.state desk.new) (map S.history seats.old) (map S.history seats.new)
         (N.state net.old) (N.state net.new) }
@@ -598,7 +602,8 @@ fn conclude<L: Link, S: Seat<Rested<L>>, N: Net<L = L>>(
     requires placed { CamePlaced (desk_now L.state desk.old) came (map S.history seats.old) }
     ensures rooms { RoomsStay S.history (room_of S.kept_from S.spare) seats.old seats.new }
     ensures done { IsDone (desk_now L.state desk.new) (stage_now result.stage) (map S.history seats.new) result.waits result.left }
-    ensures touches { TouchesAll (desk_now L.state desk.old) came (map S.history seats.old) (N.state net.old) (map S.history seats.new) }
+    ensures touches { TouchesAll (desk_now L.state desk.old) came (map S.history seats.old) (N.state net.old)
+        (stage_now result.stage) result.served (map S.history seats.new) (N.state net.new) }
     ensures keeps { KeepsOver (desk_now L.state desk.old) (desk_now L.state desk.new) (map S.history seats.old) (map S.history seats.new)
         (N.state net.old) (N.state net.new) }
     ensures routed { (back : Back) → CameRouted back came → IsRoutedTo back (stage_now result.stage) }
@@ -642,8 +647,9 @@ pub(crate) fn advance<L: Link, S: Seat<Rested<L>>, N: Net<L = L>>(
     requires loop_ { (N.state net.old).loop_no ≡ desk.old.worker.0 }
     ensures rooms { RoomsStay S.history (room_of S.kept_from S.spare) seats.old seats.new }
     ensures done { IsDone (desk_now L.state desk.new) (stage_now result.stage) (map S.history seats.new) result.waits result.left }
-    ensures touches { SomeTouches desk.old.worker desk.old.session (first_of (desk_now L.state desk.old))
-        (map S.history seats.old) (map S.history seats.new) }
+    ensures touches { SomeWay desk.old.worker desk.old.session (first_of (desk_now L.state desk.old))
+        (conn_seen (stage_now stage)) (conn_seen (stage_now result.stage)) (map S.history seats.old) (map S.history seats.new)
+        (N.state net.old) (N.state net.new) result.served }
     ensures keeps { KeepsOver (desk_now L.state desk.old) (desk_now L.state desk.new) (map S.history seats.old) (map S.history seats.new)
         (N.state net.old) (N.state net.new) }
     ensures routed { IsRoutedTo scene.entry.back.now (stage_now result.stage) }

@@ -1,11 +1,13 @@
-use Rattle.std.proofs.Common.{◌∙◌, List, map, sym, ap, inr}
+use Rattle.std.proofs.Common.{◌∙◌, List, map, sym, ap, inr, Some}
 use Rattle.hx_link.specs.Nets.{NetState}
 use Rattle.hx_pool.specs.SeatView.{History}
 use Rattle.hx_session.specs.declared.exchange.AnswerWay.{AnswerWay}
 use Rattle.hx_session.specs.Desks.{desk_now, DeskNow}
 use Rattle.hx_session.specs.Exchanged.{exchange_now}
 use Rattle.hx_session.specs.Over.{early_of}
+use Rattle.hx_connecting.specs.Sessions.{Exchanging as OnConn}
 use Rattle.hx_session.proofs.RestLemmas.{rest_routed}
+use Rattle.hx_session.proofs.RestWays.{rests_came}
 use Rattle.hx_session.proofs.StandingLemmas.{place_in, place_then}
 use Rattle.hx_session.proofs.answers.finish.Goals as goal
 
@@ -32,15 +34,17 @@ returns g c =
     let net0 : NetState = g.N.Net.state c.args.net.now in
     let net1 : NetState = g.N.Net.state c.pass-held.new.net in
     let passed = c.pass-held.ensures in
+    let w = passed.touches in
     record {
       goes = record {
         placed = c.after_pass.ensures.placed news passed.placed;
         keeps = place_then d0 d1 d2 olds news news net0 net1 net1 passed.keeps (place_in d1 d2 news net1 c.after_pass.ensures.keeps);
         touches = inr (record {
-          touch = passed.touches.0;
-          may = (c.after_pass.ensures.touches d0 passed.touches.0 passed.touches.1).0;
-          counts = (c.after_pass.ensures.touches d0 passed.touches.0 passed.touches.1).1;
-          at = passed.touches.2;
+          touch = w.touch;
+          may = (c.after_pass.ensures.touches d0 w.touch w.may).0;
+          counts = (c.after_pass.ensures.touches d0 w.touch w.may).1;
+          at = w.at;
+          way = rests_came c.after_pass.result d0.worker d0.session (Some (OnConn c.args.exchange.busy)) news w.at.added net0 net1 w.touch c.pass-held.result.1 c.pass-held.result.0 c.after_pass.ensures.rests w.way;
         });
         routed = λ back r. c.after_pass.ensures.routed back (rest_routed back c.args.exchange.busy.server c.pass-held.result.1 r.to_conn passed.server);
         told = c.after_pass.ensures.told d0 (exchange_now c.args.exchange) c.is_closing-closing.ensures passed.gives passed.told;

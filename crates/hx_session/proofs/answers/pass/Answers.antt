@@ -10,8 +10,9 @@ use Rattle.hx_connecting.proofs.BusyLemmas.{around_busy}
 use Rattle.hx_session.specs.Desks.{desk_now, DeskNow}
 use Rattle.hx_session.specs.Exchanged.{exchange_now, ExchangeNow}
 use Rattle.hx_session.proofs.RestLemmas.{rest_ready, passed_placed, passed_keeps, rests_to}
-use Rattle.hx_connecting.specs.Adding.{RestTouches}
-use Rattle.hx_connecting.proofs.AddedCalls.{rests_touches}
+use Rattle.hx_connecting.specs.Ways.{RestWay}
+use Rattle.hx_connecting.proofs.WayCalls.{rests_way}
+use Rattle.hx_session.proofs.RestWays.{is_passed, passed_for, rest_behind}
 use Rattle.hx_session.specs.Parting.{first_of}
 use Rattle.hx_session.proofs.answers.pass.Goals as goal
 
@@ -27,7 +28,7 @@ pub rest-held-requires : goal.rest-held-requires
 rest-held-requires g c =
     let d : DeskNow = desk_now g.L.Link.state c.args.desk.now in
     let d1 : DeskNow = desk_now g.L.Link.state c.tell_passed-served.new.desk in
-    let ends = c.end_answer-busy.ensures in
+    let ends = c.end_answer-busy.ensures.ends in
     let set = c.requires.placed.set in
     let r = rest_ready d d1 c.args.exchange.busy c.end_answer-busy.result c.args.exchange.answered ends.0 (map g.S.HasHistory.history c.args.seats.now)
     (ap (λ (x : DeskNow). x.session) c.tell_passed-served.ensures.next.desk) ends.1 set.numbered.counted.session set.around set.own in
@@ -47,7 +48,7 @@ returns-clause-placed g c =
     let q = c.rest-held.result in
     let b = c.args.exchange.busy in
     let b2 = c.end_answer-busy.result in
-    let ends = c.end_answer-busy.ensures in
+    let ends = c.end_answer-busy.ensures.ends in
     let set = c.requires.placed.set in
     let session : d1.session ≡ d.session = ap (λ (x : DeskNow). x.session) next.desk in
     let same_down : d1.down ≡ d.down = ap (λ (x : DeskNow). x.down) next.desk in
@@ -73,13 +74,14 @@ returns-clause-keeps g c =
 
 pub returns-clause-server : goal.returns-clause-server
 returns-clause-server g c =
-    rests_to _ _ _ c.args.exchange.busy c.end_answer-busy.result _ _ c.rest-held.result (ap (λ (x : BusyNow). x.server) c.end_answer-busy.ensures.1) c.rest-held.ensures.rests
+    rests_to _ _ _ c.args.exchange.busy c.end_answer-busy.result _ _ c.rest-held.result (ap (λ (x : BusyNow). x.server) c.end_answer-busy.ensures.ends.1) c.rest-held.ensures.rests
 
 pub returns-clause-gives : goal.returns-clause-gives
 returns-clause-gives g c =
     let told = c.tell_passed-served.ensures.gives in
     record {
       took_to = told.took_to;
+      counted = told.counted;
       gives = record { to = told.gives.to; served = told.gives.served; number = told.gives.number; asked = told.gives.asked; given = told.gives.given };
       client = told.client;
     }
@@ -89,14 +91,21 @@ returns-clause-touches g c =
     let f = g.S.HasHistory.history in
     let d : DeskNow = desk_now g.L.Link.state c.args.desk.now in
     let d1 : DeskNow = desk_now g.L.Link.state c.tell_passed-served.new.desk in
+    let e : ExchangeNow = exchange_now c.args.exchange in
     let olds : List History = map f c.args.seats.now in
     let news : List History = map f c.rest-held.new.seats in
+    let net = g.N.Net.state c.args.net.now in
+    let net2 = g.N.Net.state c.rest-held.new.net in
     let q = c.rest-held.result in
+    let r = c.tell_passed-served.result in
     let b = c.args.exchange.busy in
     let b2 = c.end_answer-busy.result in
-    let ends = c.end_answer-busy.ensures in
+    let ends = c.end_answer-busy.ensures.ends in
+    let gives = c.tell_passed-served.ensures.gives in
     let session : d1.session ≡ d.session = ap (λ (x : DeskNow). x.session) c.tell_passed-served.ensures.next.desk in
     let around : HasAround d.worker d1.session (Some (Exchanging b2)) olds =
     around_busy d.worker d1.session b b2 olds (ap (λ (x : BusyNow). x.server) ends.1) (ap (λ (x : BusyNow). x.id) ends.1) (ap (λ (x : BusyNow). x.uses) ends.1)
     (ap (λ (x : BusyNow). x.link.on_loop) ends.1) (subst (λ (n : SessionNo). HasAround d.worker n (Some (Exchanging b)) olds) (sym session) c.requires.placed.set.around) in
-    subst (λ (n : SessionNo). RestTouches d.worker n (first_of d) olds news q) session (rests_touches d.worker d1.session (first_of d) olds news b2 _ _ q around c.rest-held.ensures.rests)
+    let w : RestWay d.worker d1.session (first_of d) (Some (Exchanging b2)) olds news net net2 q (Some r) =
+    rests_way d.worker d1.session (first_of d) olds news b2 net net2 q (Some r) around (is_passed d d1 e r gives) (λ none. passed_for d d1 e b2 ends.0 r gives ends.1 c.end_answer-busy.ensures.meaning none) c.rest-held.ensures.rests in
+    rest_behind d.worker d1.session d.session (first_of d) b b2 ends.0 c.args.exchange.answered olds news net net2 q (Some r) session ends.1 w

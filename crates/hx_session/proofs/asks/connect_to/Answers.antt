@@ -1,10 +1,14 @@
-use Rattle.std.proofs.Common.{List, map, inr, subst, Option, Bool}
+use Rattle.std.proofs.Common.{List, map, inr, subst, sym, Option, Bool, None}
 use Rattle.std.specs.Prelude.{Contains, IfSome}
 use Rattle.hx_base.specs.declared.numbers.ServerNo.{ServerNo}
 use Rattle.hx_pool.specs.SeatView.{History}
 use Rattle.hx_connecting.specs.Choosing.{servers_of}
 use Rattle.hx_connecting.specs.Closing.{ConnectsTo}
-use Rattle.hx_connecting.proofs.AddedCalls.{connects_touches}
+use Rattle.hx_connecting.specs.Around.{resting}
+use Rattle.hx_connecting.specs.Sessions.{Holding}
+use Rattle.hx_connecting.specs.Ways.{SomeWay}
+use Rattle.hx_connecting.proofs.WayCalls.{connects_way}
+use Rattle.hx_session.proofs.RestWays.{held_to}
 use Rattle.hx_session.specs.Parting.{first_of}
 use Rattle.hx_session.proofs.PartingLemmas.{first_is}
 use Rattle.hx_session.specs.Desks.{desk_now, DeskNow}
@@ -19,12 +23,16 @@ returns g c =
     let k = c.connect-connected.ensures in
     let a = c.after_connect.ensures in
     let first : Bool = c.is_first.result in
+    let net = g.N.Net.state c.args.net.now in
+    let net2 = g.N.Net.state c.connect-connected.new.net in
     let connects = subst (λ (b : Bool). ConnectsTo olds news d.session b c.args.to.0 c.args.to.2.0 c.args.choosing.asked.head.method (g.N.Net.state c.args.net.now) (g.N.Net.state c.connect-connected.new.net) c.args.choosing.held c.connect-connected.result) (first_is d first set.numbered.counted.one c.is_first.ensures) k.connects in
     record {
       comes = record {
         placed = a.placed news set.numbered (k.around d.worker set.around c.requires.loop_) k.own;
         keeps = record { desk = a.who; about = k.abouts; loop_no = k.loop_ };
-        touches = inr (connects_touches d.worker d.session (first_of d) c.args.to.0 olds news _ _ _ _ c.args.choosing.held c.connect-connected.result set.around connects);
+        touches = inr (subst (λ (o : Option Holding). SomeWay d.worker d.session (first_of d) (resting c.args.choosing.held) o olds news net net2 None) (sym a.conn)
+            (connects_way d.worker d.session (first_of d) c.args.to.0 olds news c.args.to.2.0 c.args.choosing.asked.head.method net net2 c.args.choosing.held c.connect-connected.result set.around
+            (held_to c.args.choosing.held c.args.choosing.server c.args.to.0 c.requires.placed.good c.requires.chosen) connects));
         routed = λ back r. a.routed back news (subst (λ (o : Option ServerNo). IfSome o (λ v. Contains (servers_of back) v)) c.requires.chosen r.to_chosen) k.own;
         told = a.told;
       };

@@ -1,7 +1,6 @@
 use Rattle.std.proofs.Common.{List, map, refl, sym, ap, subst, inr, Some}
 use Rattle.hx_pool.specs.SeatView.{History}
-use Rattle.hx_connecting.specs.Touches.{Ends as Closes}
-use Rattle.hx_connecting.proofs.AddedCalls.{had, busy_touches}
+use Rattle.hx_connecting.proofs.WayCalls.{busy_some}
 use Rattle.hx_session.specs.Parting.{first_of}
 use Rattle.hx_session.specs.Stages.{Exchanging as Stage}
 use Rattle.hx_session.proofs.StandingLemmas.{goes_ends, cut_keeps, cut_leaves}
@@ -31,13 +30,9 @@ returns-clause-goes g c =
     let news : List History = map f c.cut_off-served.new.seats in
     let k = c.cut_off-served.ensures in
     let is = c.drop_waiting.ensures in
+    let w = busy_some d.worker d.session (first_of d) e.busy olds news (g.N.Net.state c.args.net.now) (g.N.Net.state c.cut_off-served.new.net) (Some c.cut_off-served.result) c.requires.set.around k.meaning k.closes in
     goes_ends d d2 (Stage e) olds news (g.N.Net.state c.args.net.now) (g.N.Net.state c.cut_off-served.new.net) c.leave_after.result _ c.leave_after.ensures
     (record { desk = cut_keeps d d1 d2 e c.args.cause c.cut_off-served.result k.cuts is; about = k.about; loop_no = k.loop_ })
     (cut_leaves d d1 d2 e c.args.cause c.cut_off-served.result olds news k.cuts is c.requires.set (k.around d.worker c.requires.set.around))
-    (inr (record {
-      touch = Some (had e.busy.server e.busy.id Closes);
-      may = inr refl;
-      counts = tt;
-      at = busy_touches d.worker d.session (first_of d) _ e.busy.server e.busy.id olds news _ _ e.busy.link c.requires.set.around k.closes;
-    }))
+    (inr (record { touch = w.touch; may = inr refl; counts = tt; at = w.at; way = w.way }))
     (cut_told d d1 d2 e c.args.cause c.cut_off-served.result c.requires.ends k.cuts is)

@@ -1,7 +1,9 @@
 use Rattle.std.proofs.Common.{List, map, sym, subst, inr, arith, Some, None}
 use Rattle.hx_pool.specs.SeatView.{History}
-use Rattle.hx_connecting.specs.Touches.{Ends as Closes}
-use Rattle.hx_connecting.proofs.AddedCalls.{had, busy_touches}
+use Rattle.hx_connecting.specs.Sessions.{Exchanging as OnConn}
+use Rattle.hx_connecting.specs.Ways.{WayFor}
+use Rattle.hx_connecting.proofs.WayCalls.{busy_some}
+use Rattle.hx_session.specs.Seen.{conn_seen}
 use Rattle.hx_session.specs.Parting.{first_of}
 use Rattle.hx_session.specs.Desks.{desk_now, DeskNow}
 use Rattle.hx_session.specs.Stages.{StageNow}
@@ -20,6 +22,9 @@ returns g c =
     let set = c.requires.set in
     let st = set.stands in
     let a = c.answer-stage.ensures.answers in
+    let net = g.N.Net.state c.args.net.now in
+    let net2 = g.N.Net.state c.close_busy.new.net in
+    let w = busy_some d.worker d.session (first_of d) b (map f c.args.seats.now) news net net2 None set.around c.close_busy.ensures.meaning c.close_busy.ensures.closes in
     let gave = gave_none d.client.sent d.client.sent_count d.gave_from st.answer.gave (omega (arith, c.requires.nothing, st.desk.given)) st.answer.gives in
     record {
       goes = record {
@@ -27,10 +32,11 @@ returns g c =
             (answers_set d d2 c.args.own.status None news a st.desk gave set.numbered (c.close_busy.ensures.around d.worker set.around) tt);
         keeps = record { desk = answers_keep d d2 c.args.own.status a; about = c.close_busy.ensures.abouts; loop_no = c.close_busy.ensures.loop_ };
         touches = inr (record {
-          touch = Some (had b.server b.id Closes);
+          touch = w.touch;
           may = tt;
           counts = tt;
-          at = busy_touches d.worker d.session (first_of d) _ b.server b.id (map f c.args.seats.now) news _ _ b.link set.around c.close_busy.ensures.closes;
+          at = w.at;
+          way = subst (λ (s : StageNow). WayFor d.worker d.session (Some (OnConn b)) (conn_seen s) news w.at.added net net2 w.touch None) (sym c.answer-stage.ensures.stage) w.way;
         });
         routed = λ back r. subst (λ (s : StageNow). IsRoutedTo back s) (sym c.answer-stage.ensures.stage) (record { to_conn = tt; to_chosen = tt });
         told = answers_none d d2 c.args.own.status a;

@@ -19,7 +19,7 @@ returns-in-Reading g c =
     let p = subst (λ (x : Stage g.row.L.Denot). IsPlaced d (stage_now x) seats) c.in-Reading.is c.requires.placed in
     record {
       goes = goes_ends d d _ seats seats net net c.leave.result _ c.leave.ensures (place_in d d seats net (desk_none d)) (leaves_between d c.in-Reading.held seats p.set.stands p.set.numbered p.set.around p.set.own)
-          (inl (refl, refl, sym (ap (λ (x : Stage g.row.L.Denot). conn_seen (stage_now x)) c.in-Reading.is), tt)) (none_same d, inr (inl refl));
+          (inl (refl, refl, sym (ap (λ (x : Stage g.row.L.Denot). conn_seen (stage_now x)) c.in-Reading.is), tt, tt)) (none_same d, inr (inl refl));
       rooms = rooms_none g.S.HasHistory.history (room_of g.S.HasHistory.kept_from g.S.HasHistory.spare) c.args.seats.now;
     }
 
@@ -31,7 +31,7 @@ returns-in-Choosing g c =
     let p = subst (λ (x : Stage g.row.L.Denot). IsPlaced d (stage_now x) seats) c.in-Choosing.is c.requires.placed in
     record {
       goes = goes_ends d d _ seats seats net net c.leave-in-Choosing.result _ c.leave-in-Choosing.ensures (place_in d d seats net (desk_none d)) (leaves_between d _ seats p.set.stands.0 p.set.numbered p.set.around p.set.own)
-          (inl (refl, refl, sym (ap (λ (x : Stage g.row.L.Denot). conn_seen (stage_now x)) c.in-Choosing.is), tt)) (none_same d, inr (inl refl));
+          (inl (refl, refl, sym (ap (λ (x : Stage g.row.L.Denot). conn_seen (stage_now x)) c.in-Choosing.is), tt, tt)) (none_same d, inr (inl refl));
       rooms = rooms_none g.S.HasHistory.history (room_of g.S.HasHistory.kept_from g.S.HasHistory.spare) c.args.seats.now;
     }
 

@@ -1,4 +1,6 @@
-use Rattle.std.proofs.Common.{sym, subst, Some, List, map, refl, inr}
+use Rattle.std.proofs.Common.{sym, subst, Some, None, List, map, refl, inl, inr}
+use Rattle.hx_record.specs.declared.served.LeftCause.TheVariants as cause
+use Rattle.hx_session.specs.declared.stage.Came.TheVariants.{Ends}
 use Rattle.hx_session.specs.declared.stage.Stage.{Stage}
 use Rattle.hx_session.specs.Desks.{desk_now, DeskNow}
 use Rattle.hx_session.specs.Stages.{StandsSo, stage_now}
@@ -7,10 +9,9 @@ use Rattle.hx_session.proofs.ToldLemmas.{stop_own}
 use Rattle.hx_connecting.specs.Journals.{room_of}
 use Rattle.hx_connecting.proofs.RoomLemmas.{rooms_none}
 use Rattle.hx_pool.specs.SeatView.{History}
-use Rattle.hx_connecting.specs.Sessions.{Exchanging as OnConn}
-use Rattle.hx_connecting.specs.Touches.{Ends as Closes}
-use Rattle.hx_connecting.proofs.AddedCalls.{had, busy_touches}
-use Rattle.hx_session.specs.Parting.{first_of}
+use Rattle.hx_connecting.proofs.WayCalls.{busy_some}
+use Rattle.hx_session.specs.Parting.{PartTouches, first_of}
+use Rattle.hx_session.proofs.StaysLemmas.{own_given}
 use Rattle.hx_session.specs.Standing.{IsPlaced}
 use Rattle.hx_session.proofs.ending.stop_stage.Goals as goal
 
@@ -39,10 +40,21 @@ returns-in-Exchanging-clause-touches g c =
     let olds : List History = map f c.args.seats.now in
     let news : List History = map f c.cut_off.new.seats in
     let b = c.in-Exchanging.exchange.busy in
+    let net = g.N.Net.state c.args.net.now in
+    let net2 = g.N.Net.state c.cut_off.new.net in
+    let d1 : DeskNow = desk_now g.L.Link.state c.cut_off.new.desk in
     let p = subst (λ (x : Stage g.row.L.Denot). IsPlaced d (stage_now x) olds) c.in-Exchanging.is c.requires.placed in
-    inr (record {
-      touch = Some (had b.server b.id Closes);
-      may = inr refl;
-      counts = tt;
-      at = busy_touches d.worker d.session (first_of d) (Some (OnConn b)) b.server b.id olds news _ _ b.link p.set.around c.cut_off.ensures.closes;
-    })
+    let w = busy_some d.worker d.session (first_of d) b olds news net net2 (Some c.cut_off.result) p.set.around c.cut_off.ensures.meaning c.cut_off.ensures.closes in
+    subst (λ (x : Stage g.row.L.Denot). PartTouches d (stage_now x) olds net d1 (Ends (record { cause = cause.Stop; held = None; served = Some c.cut_off.result })) news net2) (sym c.in-Exchanging.is)
+    (inr (record { touch = w.touch; may = inr refl; counts = tt; at = w.at; way = w.way }))
+
+pub returns-in-Answering-clause-touches : goal.returns-in-Answering-clause-touches
+returns-in-Answering-clause-touches g c =
+    let d : DeskNow = desk_now g.L.Link.state c.args.desk.now in
+    let d1 : DeskNow = desk_now g.L.Link.state c.tell_own.new.desk in
+    let seats : List History = map g.S.HasHistory.history c.args.seats.now in
+    let net = g.N.Net.state c.args.net.now in
+    let held = c.in-Answering.field-0.held in
+    let status = c.in-Answering.field-0.status in
+    subst (λ (x : Stage g.row.L.Denot). PartTouches d (stage_now x) seats net d1 (Ends (record { cause = cause.Stop; held = held; served = Some c.tell_own.result })) seats net) (sym c.in-Answering.is)
+    (inl (refl, refl, refl, tt, own_given d status d.taken held c.tell_own.result c.tell_own.ensures.served))

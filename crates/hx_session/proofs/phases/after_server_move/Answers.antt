@@ -12,6 +12,8 @@ use Rattle.hx_session.proofs.StandingLemmas.{desk_none, place_in}
 use Rattle.hx_session.proofs.TellLemmas.{came_then, still_same}
 use Rattle.hx_connecting.specs.Journals.{room_of}
 use Rattle.hx_connecting.proofs.RoomLemmas.{rooms_none}
+use Rattle.hx_session.proofs.PartLemmas.{still_keeps}
+use Rattle.hx_session.proofs.StaysLemmas.{keeps_any}
 use Rattle.hx_session.proofs.phases.after_server_move.Goals as goal
 
 idle_good : (m : Move) → m ≡ Idle → m ≡ Failed → ⊥
@@ -38,7 +40,7 @@ returns-in-Idle-clause-goes g c =
     record {
       placed = record { set = c.requires.set; good = c.requires.good (idle_good c.args.call.0 c.in-Idle.is) };
       keeps = place_in d d seats net (desk_none d);
-      touches = inl (refl, refl, refl, refl);
+      touches = inl (refl, refl, refl, refl, tt);
       routed = λ back r. r;
       told = still_same d (Exchanging (exchange_now c.args.exchange));
     }
@@ -51,7 +53,7 @@ returns-in-Waits-clause-goes g c =
     record {
       placed = record { set = c.requires.set; good = c.requires.good (waits_good c.args.call.0 c.in-Waits.is) };
       keeps = place_in d d seats net (desk_none d);
-      touches = inl (refl, refl, refl, refl);
+      touches = inl (refl, refl, refl, refl, tt);
       routed = λ back r. r;
       told = still_same d (Exchanging (exchange_now c.args.exchange));
     }
@@ -67,3 +69,21 @@ returns-in-Idle-clause-rooms g c = rooms_none g.S.HasHistory.history (room_of g.
 
 pub returns-in-Waits-clause-rooms : goal.returns-in-Waits-clause-rooms
 returns-in-Waits-clause-rooms g c = rooms_none g.S.HasHistory.history (room_of g.S.HasHistory.kept_from g.S.HasHistory.spare) c.args.seats.now
+
+pub returns-in-Failed-clause-keeps : goal.returns-in-Failed-clause-keeps
+returns-in-Failed-clause-keeps g c = λ d e t.
+    let d1 : DeskNow = desk_now g.L.Link.state c.args.desk.now in
+    let e1 : ExchangeNow = exchange_now c.args.exchange in
+    keeps_any c.lose_server.result e.busy e1.busy (still_keeps d d1 e e1 (subst (λ (m : Move). MoveTells m d e d1 e1) c.in-Failed.is t))
+
+pub returns-in-Idle-clause-keeps : goal.returns-in-Idle-clause-keeps
+returns-in-Idle-clause-keeps g c = λ d e t.
+    let d1 : DeskNow = desk_now g.L.Link.state c.args.desk.now in
+    let e1 : ExchangeNow = exchange_now c.args.exchange in
+    still_keeps d d1 e e1 (subst (λ (m : Move). MoveTells m d e d1 e1) c.in-Idle.is t)
+
+pub returns-in-Waits-clause-keeps : goal.returns-in-Waits-clause-keeps
+returns-in-Waits-clause-keeps g c = λ d e t.
+    let d1 : DeskNow = desk_now g.L.Link.state c.args.desk.now in
+    let e1 : ExchangeNow = exchange_now c.args.exchange in
+    still_keeps d d1 e e1 (subst (λ (m : Move). MoveTells m d e d1 e1) c.in-Waits.is t)

@@ -48,4 +48,4 @@ returns-in-Choosing-clause-goes g c =
     let net : NetState = g.N.Net.state c.args.net.now in
     let net2 : NetState = g.N.Net.state c.go_out-stage.new.net in
     subst (λ (x : Stage g.row.L.Denot). Goes d (stage_now x) olds net d2 (Moved c.go_out-stage.result c.args.scene.waits None) news net2) (sym c.in-Choosing.is)
-    (goes_to d d2 _ olds news net net2 c.go_out-stage.result c.args.scene.waits None c.go_out-stage.ensures.comes c.go_out-stage.ensures.comes.told)
+    (goes_to d d2 _ olds news net net2 c.go_out-stage.result c.args.scene.waits c.go_out-stage.ensures.comes c.go_out-stage.ensures.comes.told)

@@ -22,7 +22,7 @@ returns-in-Bytes g c =
       goes = record {
         placed = gave_placed d d2 (stage_now c.args.stage) c.args.at.now.0 m seats c.give.ensures.desk c.give.ensures.gives c.requires.placed;
         keeps = place_in d d2 seats net (gives_keep d d2 c.args.at.now.0 m c.give.ensures.gives).desk;
-        touches = inl (refl, refl, refl, tt);
+        touches = inl (refl, refl, refl, tt, tt);
         routed = λ back r. r;
         told = subst (λ (x : Move). DeskTells x d (stage_now c.args.stage) d2) c.in-Bytes.is (gives_told d d2 (stage_now c.args.stage) c.args.at.now.0 c.give.result c.give.ensures.gives);
       };
@@ -40,7 +40,7 @@ returns-in-Ended g c =
       goes = record {
         placed = gave_placed d d2 (stage_now c.args.stage) c.args.at.now.0 m seats c.give.ensures.desk c.give.ensures.gives c.requires.placed;
         keeps = place_in d d2 seats net (gives_keep d d2 c.args.at.now.0 m c.give.ensures.gives).desk;
-        touches = inl (refl, refl, refl, tt);
+        touches = inl (refl, refl, refl, tt, tt);
         routed = λ back r. r;
         told = subst (λ (x : Move). DeskTells x d (stage_now c.args.stage) d2) c.in-Ended.is (gives_told d d2 (stage_now c.args.stage) c.args.at.now.0 c.give.result c.give.ensures.gives);
       };
@@ -58,7 +58,7 @@ returns-in-Idle g c =
       goes = record {
         placed = gave_placed d d2 (stage_now c.args.stage) c.args.at.now.0 m seats c.give.ensures.desk c.give.ensures.gives c.requires.placed;
         keeps = place_in d d2 seats net (gives_keep d d2 c.args.at.now.0 m c.give.ensures.gives).desk;
-        touches = inl (refl, refl, refl, (gives_keep d d2 c.args.at.now.0 m c.give.ensures.gives).number);
+        touches = inl (refl, refl, refl, (gives_keep d d2 c.args.at.now.0 m c.give.ensures.gives).number, tt);
         routed = λ back r. r;
         told = subst (λ (x : Move). DeskTells x d (stage_now c.args.stage) d2) c.in-Idle.is (gives_told d d2 (stage_now c.args.stage) c.args.at.now.0 c.give.result c.give.ensures.gives);
       };
@@ -76,7 +76,7 @@ returns-in-Waits g c =
       goes = record {
         placed = gave_placed d d2 (stage_now c.args.stage) c.args.at.now.0 m seats c.give.ensures.desk c.give.ensures.gives c.requires.placed;
         keeps = place_in d d2 seats net (gives_keep d d2 c.args.at.now.0 m c.give.ensures.gives).desk;
-        touches = inl (refl, refl, refl, (gives_keep d d2 c.args.at.now.0 m c.give.ensures.gives).number);
+        touches = inl (refl, refl, refl, (gives_keep d d2 c.args.at.now.0 m c.give.ensures.gives).number, tt);
         routed = λ back r. r;
         told = subst (λ (x : Move). DeskTells x d (stage_now c.args.stage) d2) c.in-Waits.is (gives_told d d2 (stage_now c.args.stage) c.args.at.now.0 c.give.result c.give.ensures.gives);
       };

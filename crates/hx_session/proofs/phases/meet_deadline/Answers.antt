@@ -23,7 +23,7 @@ returns-in-None g c =
       goes = record {
         placed = subst (λ (x : DeskNow). IsPlaced x s seats) (sym same) c.requires.placed;
         keeps = place_in d d2 seats net (desk_is d d2 same);
-        touches = inl (refl, refl, refl, ap (λ (x : DeskNow). x.number) same);
+        touches = inl (refl, refl, refl, ap (λ (x : DeskNow). x.number) same, tt);
         routed = λ back r. r;
         told = subst (λ (x : DeskNow). IsStillTold d s x s) (sym same) (still_same d s);
       };

@@ -33,6 +33,6 @@ returns g c =
     let net2 : NetState = g.N.Net.state c.after_server_move.new.net in
     let r = c.read_server-read.ensures in
     record {
-      goes = goes_from_exchange d d2 d3 e e2 olds news net net2 c.after_server_move.result (holds_stand d.worker d.session (conn_seen (Exchanging e)) 0 olds c.requires.placed.set.around.holds) r.keeps r.conn c.after_server_move.ensures.goes (c.after_server_move.ensures.told d e r.told);
+      goes = goes_from_exchange d d2 d3 e e2 olds news net net2 c.after_server_move.result (holds_stand d.worker d.session (conn_seen (Exchanging e)) 0 olds c.requires.placed.set.around.holds) r.keeps r.conn r.stays (c.after_server_move.ensures.keeps d e r.told) c.after_server_move.ensures.goes (c.after_server_move.ensures.told d e r.told);
       rooms = c.after_server_move.ensures.rooms;
     }

@@ -22,7 +22,7 @@ returns-in-Bytes g c =
       goes = record {
         placed = took_placed d d2 (stage_now c.args.stage) c.args.at.now.0 m seats c.read_client.ensures.desk c.read_client.ensures.reads c.requires.wants c.requires.placed;
         keeps = place_in d d2 seats net (reads_keep d d2 c.args.at.now.0 m c.read_client.ensures.reads).desk;
-        touches = inl (refl, refl, refl, tt);
+        touches = inl (refl, refl, refl, tt, tt);
         routed = λ back r. r;
         told = subst (λ (x : Move). DeskTells x d (stage_now c.args.stage) d2) c.in-Bytes.is (reads_told d d2 (stage_now c.args.stage) c.args.at.now.0 c.read_client.result c.read_client.ensures.reads);
       };
@@ -40,7 +40,7 @@ returns-in-Ended g c =
       goes = record {
         placed = took_placed d d2 (stage_now c.args.stage) c.args.at.now.0 m seats c.read_client.ensures.desk c.read_client.ensures.reads c.requires.wants c.requires.placed;
         keeps = place_in d d2 seats net (reads_keep d d2 c.args.at.now.0 m c.read_client.ensures.reads).desk;
-        touches = inl (refl, refl, refl, tt);
+        touches = inl (refl, refl, refl, tt, tt);
         routed = λ back r. r;
         told = subst (λ (x : Move). DeskTells x d (stage_now c.args.stage) d2) c.in-Ended.is (reads_told d d2 (stage_now c.args.stage) c.args.at.now.0 c.read_client.result c.read_client.ensures.reads);
       };
@@ -58,7 +58,7 @@ returns-in-Idle g c =
       goes = record {
         placed = took_placed d d2 (stage_now c.args.stage) c.args.at.now.0 m seats c.read_client.ensures.desk c.read_client.ensures.reads c.requires.wants c.requires.placed;
         keeps = place_in d d2 seats net (reads_keep d d2 c.args.at.now.0 m c.read_client.ensures.reads).desk;
-        touches = inl (refl, refl, refl, (reads_keep d d2 c.args.at.now.0 m c.read_client.ensures.reads).number);
+        touches = inl (refl, refl, refl, (reads_keep d d2 c.args.at.now.0 m c.read_client.ensures.reads).number, tt);
         routed = λ back r. r;
         told = subst (λ (x : Move). DeskTells x d (stage_now c.args.stage) d2) c.in-Idle.is (reads_told d d2 (stage_now c.args.stage) c.args.at.now.0 c.read_client.result c.read_client.ensures.reads);
       };
@@ -76,7 +76,7 @@ returns-in-Waits g c =
       goes = record {
         placed = took_placed d d2 (stage_now c.args.stage) c.args.at.now.0 m seats c.read_client.ensures.desk c.read_client.ensures.reads c.requires.wants c.requires.placed;
         keeps = place_in d d2 seats net (reads_keep d d2 c.args.at.now.0 m c.read_client.ensures.reads).desk;
-        touches = inl (refl, refl, refl, (reads_keep d d2 c.args.at.now.0 m c.read_client.ensures.reads).number);
+        touches = inl (refl, refl, refl, (reads_keep d d2 c.args.at.now.0 m c.read_client.ensures.reads).number, tt);
         routed = λ back r. r;
         told = subst (λ (x : Move). DeskTells x d (stage_now c.args.stage) d2) c.in-Waits.is (reads_told d d2 (stage_now c.args.stage) c.args.at.now.0 c.read_client.result c.read_client.ensures.reads);
       };

@@ -1,0 +1,1 @@
+-- What a step and a stop do with links, as the worker sees it.
