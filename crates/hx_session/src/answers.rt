@@ -21,7 +21,6 @@ ghost use Rattle.hx_session.specs.Seen.{conn_seen};
 ghost use Rattle.hx_session.specs.Stages.{StageNow, Reading, Exchanging};
 ghost use Rattle.hx_connecting.specs.Ways.{ExchangeStays, RestWay};
 ghost use Rattle.hx_connecting.specs.Sessions.{Exchanging as OnConn};
-ghost use Rattle.hx_conn.specs.Conns.{IsBusy};
 ghost use Rattle.hx_connecting.specs.Journals.{room_of};
 ghost use Rattle.hx_connecting.specs.Rooms.{RoomsStay};
 ghost use Rattle.hx_connecting.specs.Touches.{Touch};
@@ -403,8 +402,7 @@ fn lasts(persists: bool, to_end: bool) -> bool
 /// The whole answer was taken.
 fn end_answer<L: Link>(exchange: Exchange<L>) -> Busy<L>
     requires { WasOver (exchange_now exchange) }
-    ensures ends { EndsAnswer exchange.busy result exchange.answered }
-    ensures meaning { IsBusy result }
+    ensures { EndsAnswer exchange.busy result exchange.answered }
 {
     let Exchange {
         mut busy,
@@ -416,8 +414,6 @@ fn end_answer<L: Link>(exchange: Exchange<L>) -> Busy<L>
         let persistent = lasts(body.persists, body.to_end);
         busy.answer_ends(answered, persistent);
     }
-    // It says that the link's counts are those of its bytes.
-    let _nth = busy.nth();
     busy
 }
 
@@ -442,6 +438,8 @@ fn pass<L: Link, S: Seat<Rested<L>>, N: Net<L = L>>(
 {
     let served = tell_passed(desk, &exchange);
     let busy = end_answer(exchange);
+    // It says that the link's counts are those of its bytes.
+    let _nth = busy.nth();
     let held = rest(busy, seats, net, desk.session);
     let unread = desk.down.len();
     desk.down.drop_front(unread);

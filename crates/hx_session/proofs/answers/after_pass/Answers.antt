@@ -1,7 +1,8 @@
-use Rattle.std.proofs.Common.{sym, subst}
+use Rattle.std.proofs.Common.{sym, subst, refl}
 use Rattle.hx_record.specs.declared.served.LeftCause.TheVariants as cause
 use Rattle.hx_session.specs.declared.stage.Came.{Came}
 use Rattle.hx_session.specs.Desks.{desk_now, DeskNow}
+use Rattle.hx_session.specs.Parting.{RestsSo}
 use Rattle.hx_session.specs.Stages.{Exchanging}
 use Rattle.hx_session.specs.Telling.{CameTells}
 use Rattle.hx_session.proofs.TellLemmas.{passed_closes, passed_moves}

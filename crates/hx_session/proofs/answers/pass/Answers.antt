@@ -28,7 +28,7 @@ pub rest-held-requires : goal.rest-held-requires
 rest-held-requires g c =
     let d : DeskNow = desk_now g.L.Link.state c.args.desk.now in
     let d1 : DeskNow = desk_now g.L.Link.state c.tell_passed-served.new.desk in
-    let ends = c.end_answer-busy.ensures.ends in
+    let ends = c.end_answer-busy.ensures in
     let set = c.requires.placed.set in
     let r = rest_ready d d1 c.args.exchange.busy c.end_answer-busy.result c.args.exchange.answered ends.0 (map g.S.HasHistory.history c.args.seats.now)
     (ap (λ (x : DeskNow). x.session) c.tell_passed-served.ensures.next.desk) ends.1 set.numbered.counted.session set.around set.own in
@@ -48,7 +48,7 @@ returns-clause-placed g c =
     let q = c.rest-held.result in
     let b = c.args.exchange.busy in
     let b2 = c.end_answer-busy.result in
-    let ends = c.end_answer-busy.ensures.ends in
+    let ends = c.end_answer-busy.ensures in
     let set = c.requires.placed.set in
     let session : d1.session ≡ d.session = ap (λ (x : DeskNow). x.session) next.desk in
     let same_down : d1.down ≡ d.down = ap (λ (x : DeskNow). x.down) next.desk in
@@ -74,7 +74,7 @@ returns-clause-keeps g c =
 
 pub returns-clause-server : goal.returns-clause-server
 returns-clause-server g c =
-    rests_to _ _ _ c.args.exchange.busy c.end_answer-busy.result _ _ c.rest-held.result (ap (λ (x : BusyNow). x.server) c.end_answer-busy.ensures.ends.1) c.rest-held.ensures.rests
+    rests_to _ _ _ c.args.exchange.busy c.end_answer-busy.result _ _ c.rest-held.result (ap (λ (x : BusyNow). x.server) c.end_answer-busy.ensures.1) c.rest-held.ensures.rests
 
 pub returns-clause-gives : goal.returns-clause-gives
 returns-clause-gives g c =
@@ -100,12 +100,12 @@ returns-clause-touches g c =
     let r = c.tell_passed-served.result in
     let b = c.args.exchange.busy in
     let b2 = c.end_answer-busy.result in
-    let ends = c.end_answer-busy.ensures.ends in
+    let ends = c.end_answer-busy.ensures in
     let gives = c.tell_passed-served.ensures.gives in
     let session : d1.session ≡ d.session = ap (λ (x : DeskNow). x.session) c.tell_passed-served.ensures.next.desk in
     let around : HasAround d.worker d1.session (Some (Exchanging b2)) olds =
     around_busy d.worker d1.session b b2 olds (ap (λ (x : BusyNow). x.server) ends.1) (ap (λ (x : BusyNow). x.id) ends.1) (ap (λ (x : BusyNow). x.uses) ends.1)
     (ap (λ (x : BusyNow). x.link.on_loop) ends.1) (subst (λ (n : SessionNo). HasAround d.worker n (Some (Exchanging b)) olds) (sym session) c.requires.placed.set.around) in
     let w : RestWay d.worker d1.session (first_of d) (Some (Exchanging b2)) olds news net net2 q (Some r) =
-    rests_way d.worker d1.session (first_of d) olds news b2 net net2 q (Some r) around (is_passed d d1 e r gives) (λ none. passed_for d d1 e b2 ends.0 r gives ends.1 c.end_answer-busy.ensures.meaning none) c.rest-held.ensures.rests in
+    rests_way d.worker d1.session (first_of d) olds news b2 net net2 q (Some r) around (is_passed d d1 e r gives) (λ none. passed_for d d1 e b2 ends.0 r gives ends.1 c.nth-nth.ensures.meaning none) c.rest-held.ensures.rests in
     rest_behind d.worker d1.session d.session (first_of d) b b2 ends.0 c.args.exchange.answered olds news net net2 q (Some r) session ends.1 w

@@ -7,15 +7,21 @@ use Rattle.hx_config.specs.Views.{meaning}
 use Rattle.hx_pool.specs.SeatView.{History}
 use Rattle.hx_connecting.specs.Choice.{HaveSeats}
 use Rattle.hx_connecting.specs.Holds.{HoldsAt}
-use Rattle.hx_connecting.specs.Sessions.{SessionNow}
+use Rattle.hx_connecting.specs.Sessions.{SessionNow, Around, around_with}
 use Rattle.hx_session.specs.declared.stage.Stage.{Stage}
 use Rattle.hx_session.specs.Desks.{desk_now, DeskNow}
 use Rattle.hx_session.specs.Fits.{IsGoing, SeatsServe}
 use Rattle.hx_session.specs.Stages.{StageNow, stage_now}
 use Rattle.hx_session.specs.Standing.{IsPlaced, IsRoutedTo}
-use Rattle.hx_session.proofs.ExitLemmas.{done_going, turns_set}
+use Rattle.std.specs.List.{slice_set}
+use Rattle.hx_link.specs.Nets.{NetState}
+use Rattle.hx_connecting.specs.Ways.{SomeWay}
+use Rattle.hx_session.specs.declared.step.Step.{Step}
+use Rattle.hx_session.specs.Linking.{StepLinks}
+use Rattle.hx_session.proofs.LinkLemmas.{step_links}
+use Rattle.hx_session.proofs.ExitLemmas.{done_going, done_holds, turns_set}
 use Rattle.hx_session.proofs.StepLemmas.{Enters, enters, goes_on_here, serves_on, turn_here}
-use Rattle.hx_session.specs.Seen.{session_seen}
+use Rattle.hx_session.specs.Seen.{conn_seen, session_seen}
 use Rattle.hx_session.specs.Telling.{DoneTells, StepTold}
 use Rattle.hx_session.proofs.ToldLemmas.{sound_one, step_told}
 use Rattle.hx_connecting.specs.Journals.{room_of}
@@ -99,14 +105,15 @@ returns-clause-adds g c =
     let s : StageNow = stage_now c.self.inside.stage in
     let olds : List History = map f c.args.seats.now in
     let news : List History = map f c.advance-stage.new.seats in
-    subst (λ (x : SessionNow). AddsMarks x olds news) c.self.view_is (adds_marks c.self.inside.front d s olds news c.advance-stage.ensures.touches)
+    let w = c.advance-stage.ensures.touches in
+    subst (λ (x : SessionNow). AddsMarks x olds news) c.self.view_is (adds_marks c.self.inside.front d s olds news (w.touch, w.at))
 
 pub returns-clause-journals : goal.returns-clause-journals
 returns-clause-journals g c =
     let f = g.S.HasHistory.history in
     let d : DeskNow = desk_now g.L.Link.state c.self.inside.desk in
     let t = c.advance-stage.ensures.touches in
-    rooms_stay f (room_of g.S.HasHistory.kept_from g.S.HasHistory.spare) d.worker d.session (first_of d) t.0 0 c.args.seats.now c.advance-stage.new.seats t.1.added c.advance-stage.ensures.rooms t.1.adds
+    rooms_stay f (room_of g.S.HasHistory.kept_from g.S.HasHistory.spare) d.worker d.session (first_of d) t.touch 0 c.args.seats.now c.advance-stage.new.seats t.at.added c.advance-stage.ensures.rooms t.at.adds
 
 pub returns-then-is_over-clause-adds : goal.returns-then-is_over-clause-adds
 returns-then-is_over-clause-adds g c =
@@ -122,3 +129,37 @@ returns-then-is_over-clause-journals g c =
     let seats : List History = map f c.args.seats.now in
     rooms_stay f r s.worker s.number true None 0 c.args.seats.now c.args.seats.now (nothing seats) (rooms_none f r c.args.seats.now)
     (adds_no_touch s.worker s.number true seats (holds_stand s.worker s.number s.conn 0 seats c.requires.holds))
+
+pub returns-clause-links : goal.returns-clause-links
+returns-clause-links g c = λ goes.
+    let f = g.S.HasHistory.history in
+    let front = c.self.inside.front in
+    let d : DeskNow = desk_now g.L.Link.state c.self.inside.desk in
+    let d2 : DeskNow = desk_now g.L.Link.state c.advance-stage.new.desk in
+    let s : StageNow = stage_now c.self.inside.stage in
+    let done = c.advance-stage.result in
+    let s2 : StageNow = stage_now done.stage in
+    let olds : List History = map f c.args.seats.now in
+    let news : List History = map f c.advance-stage.new.seats in
+    let net : NetState = g.N.Net.state c.args.net.now in
+    let net2 : NetState = g.N.Net.state c.advance-stage.new.net in
+    let keeps = c.advance-stage.ensures.keeps in
+    let config = c.args.config.now in
+    let value = c.replace-stage.ensures.value in
+    let same = sym c.self.view_is in
+    let going = subst (λ (x : SessionNow). IsGoing (meaning config) x) same (c.requires.going goes) in
+    let serves = subst (λ (x : SessionNow). SeatsServe x.worker olds (all_servers config.backs)) same c.requires.seats in
+    let holds = subst (λ (x : SessionNow). HoldsAt x 0 olds) same c.requires.holds in
+    let scene = c.scene_of-scene.result in
+    let e : Enters scene.back.now (length (all_servers config.backs)) d s olds =
+    enters config.threads (meaning config) front d s olds scene.front.now scene.back.now config.within c.scene_of-scene.ensures.front c.scene_of-scene.ensures.back c.self.invariant going serves holds in
+    let r : Step = record { moved = done.moved; waits = done.waits; served = done.served; left = done.left } in
+    let before : Around = around_with olds c.args.turns.now net in
+    let after : Around = around_with news (slice_set c.args.turns.now scene.front.now.back c.advance-stage.new.turn) net2 in
+    let w = subst (λ (x : Stage g.row.L.Denot). SomeWay d.worker d.session (first_of d) (conn_seen (stage_now x)) (conn_seen s2) olds news net net2 done.served) value c.advance-stage.ensures.touches in
+    let some = sound_one d s c.self.invariant going.going in
+    let told = subst (λ (x : Stage g.row.L.Denot). DoneTells d (stage_now x) d2 done.served done.left) value c.advance-stage.ensures.told in
+    let records = (step_told front d d2 s s2 news done.waits done.served done.left some told c.advance-stage.ensures.done).records in
+    subst (λ (x : SessionNow). StepLinks x (session_seen front d2 s2) before after r) c.self.view_is
+    (step_links front d d2 s s2 before after r keeps.who.worker keeps.who.session keeps.loop_no e.placed.set.own
+    (done_holds d2 s2 news done.waits done.left c.advance-stage.ensures.done) w records)
