@@ -1,13 +1,11 @@
 -- What stands around a session that connects, closes its connection, or lets it rest.
-use Rattle.std.proofs.Common.{◌≡◌, ◌≢◌, ℕ, ◌+◌, Bool, List, [], ◌∷◌, refl, sym, ap, subst, ◌∙◌, inl, inr, arith, Option, Some, None, ⊎_elim, Ok}
+use Rattle.std.proofs.Common.{◌≡◌, ℕ, Bool, List, [], ◌∷◌, refl, sym, ap, subst, ◌∙◌, arith, Option, Some, None, ⊎_elim}
 use Rattle.std.specs.Prelude.{⊤, IfSome}
 use Rattle.std.specs.List.{slice_get, slice_set}
 use Rattle.hx_base.specs.declared.numbers.ThreadNo.{ThreadNo}
 use Rattle.hx_base.specs.declared.numbers.SessionNo.{SessionNo}
 use Rattle.hx_base.specs.declared.numbers.ServerNo.{ServerNo}
 use Rattle.hx_base.specs.declared.numbers.ConnId.{ConnId}
-use Rattle.hx_base.specs.declared.numbers.Face.{Face}
-use Rattle.hx_base.specs.declared.rules.Mode.TheVariants.{Never}
 use Rattle.hx_base.specs.Shown.{Shown}
 use Rattle.hx_message.specs.declared.MethodKind.{MethodKind}
 use Rattle.hx_link.specs.Told.{LinkState}
@@ -16,25 +14,24 @@ use Rattle.hx_conn.specs.Conns.{RestedNow, BusyNow}
 use Rattle.hx_conn.specs.Steps.{begun, new_exchange, rested_of}
 use Rattle.hx_conn.specs.WhatTold.{shown}
 use Rattle.hx_pool.specs.Table.{face_of}
-use Rattle.hx_pool.specs.Held.{held_by, HoldsJust}
-use Rattle.hx_pool.specs.SeatView.{About, History, StandsInOneHistory}
+use Rattle.hx_pool.specs.Held.{HoldsJust}
+use Rattle.hx_pool.specs.SeatView.{History, StandsInOneHistory}
 use Rattle.hx_pool.specs.Opening.{HasConn, Closes}
 use Rattle.hx_pool.proofs.HeldCalls.{closes_just, parks_just, refused_just}
-use Rattle.hx_pool.proofs.Owning.{just_has}
 use Rattle.hx_connecting.specs.declared.connecting.Connected.{Connected}
 use Rattle.hx_connecting.specs.declared.connecting.Connected.TheVariants.{Begun, Dead, Refused}
 use Rattle.hx_connecting.specs.Sessions.{Holding, Resting, Exchanging, conn_server, conn_id}
 use Rattle.hx_connecting.specs.Holds.{HasJust}
 use Rattle.hx_connecting.specs.Around.{ConnOnLoop, AreNumbered, HasAround, abouts, resting}
-use Rattle.hx_connecting.specs.Connecting.{FindsOne, BeginsProbed, Dies, IsClosed, TriesRested, OpensOne, OpensNone, TriesNew, Connects, TriesFor, first_rested}
+use Rattle.hx_connecting.specs.Connecting.{FindsOne, BeginsProbed, Dies, IsClosed, TriesRested, TriesNew, Connects, TriesFor, first_rested}
 use Rattle.hx_connecting.specs.Closing.{AtSeat, ClosesAt, ClosesHeld, ClosesAny, HasHeld, HoldsTo, ConnectsTo, HasBegun, BeginsNew}
-use Rattle.hx_connecting.specs.Settling.{MaySettle, SettlesAs, Settles, Shared, RestsAs}
+use Rattle.hx_connecting.specs.Settling.{SettlesAs, Settles, RestsAs}
 use Rattle.hx_connecting.specs.Touched.{conn_after, held_after}
 use Rattle.hx_connecting.proofs.AroundLemmas.{IsAt, RestsNever, around_set, just_here, one_here, seat_set, abouts_set, numbered_here}
 use Rattle.hx_connecting.proofs.TouchLemmas.{connects_touch, one_seat, none_seat}
 use Rattle.hx_connecting.proofs.HoldLemmas.{connects_holds}
 use Rattle.hx_connecting.proofs.ConnectLemmas.{has_own, has_over, has_new}
-use Rattle.hx_connecting.proofs.ParkLemmas.{parks_seat, refused_end}
+use Rattle.hx_connecting.proofs.ParkLemmas.{refused_end}
 
 some_same : {A : Type 0} (x y : A) → Some x ≡ Some y → x ≡ y
 some_same x y e = cc

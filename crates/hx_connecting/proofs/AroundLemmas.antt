@@ -1,14 +1,12 @@
 -- What stands around a session after a call at one seat.
-use Rattle.std.proofs.Common.{◌≡◌, ◌≢◌, ℕ, zero, suc, ◌+◌, ◌≤◌, ◌<◌, Bool, true, false, eqb, List, [], ◌∷◌, map, length, refl, sym, ap, subst, ◌∙◌, inl, inr, arith, Option, Some, None, ⊎_elim, eq-eqb, ne_eqb, Ok}
-use Rattle.std.specs.Prelude.{if◌then◌else◌, ◌==◌, ⊤}
+use Rattle.std.proofs.Common.{◌≡◌, ℕ, zero, suc, ◌+◌, ◌≤◌, Bool, List, [], ◌∷◌, refl, sym, ap, subst, ◌∙◌, arith, Option, Some, None, eq-eqb, ne_eqb}
+use Rattle.std.specs.Prelude.{if◌then◌else◌, ⊤}
 use Rattle.std.specs.List.{slice_get, slice_set}
 use Rattle.hx_base.specs.declared.numbers.ThreadNo.{ThreadNo}
 use Rattle.hx_base.specs.declared.numbers.SessionNo.{SessionNo}
-use Rattle.hx_base.specs.declared.numbers.ServerNo.{ServerNo}
 use Rattle.hx_base.specs.declared.rules.Mode.TheVariants.{Never}
 use Rattle.hx_pool.specs.SeatView.{About, History, StandsInOneHistory}
-use Rattle.hx_connecting.specs.Closing.{AtSeat}
-use Rattle.hx_connecting.specs.Holds.{HasJust, conn_if, conn_at, HoldsConn}
+use Rattle.hx_connecting.specs.Holds.{HasJust, conn_at, HoldsConn}
 use Rattle.hx_connecting.specs.Sessions.{Holding, Resting, Exchanging, conn_server}
 use Rattle.hx_connecting.specs.Around.{ConnOnLoop, AreNumbered, RestsAtNever, HasAround, abouts}
 

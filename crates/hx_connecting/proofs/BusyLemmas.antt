@@ -1,6 +1,6 @@
 -- A connection whose exchange goes on.
-use Rattle.std.proofs.Common.{◌≡◌, ℕ, ◌+◌, Bool, true, false, eqb, List, [], ◌∷◌, refl, sym, ap, subst, ◌∙◌, Option, Some, None}
-use Rattle.std.specs.Prelude.{if◌then◌else◌, ◌==◌, ⊤}
+use Rattle.std.proofs.Common.{◌≡◌, ℕ, ◌+◌, Bool, true, false, List, [], ◌∷◌, sym, ap, subst, ◌∙◌, Some, None}
+use Rattle.std.specs.Prelude.{if◌then◌else◌, ◌==◌}
 use Rattle.hx_base.specs.declared.numbers.ThreadNo.{ThreadNo}
 use Rattle.hx_base.specs.declared.numbers.SessionNo.{SessionNo}
 use Rattle.hx_base.specs.declared.numbers.ServerNo.{ServerNo}
@@ -9,8 +9,8 @@ use Rattle.hx_conn.specs.Conns.{BusyNow}
 use Rattle.hx_pool.specs.SeatView.{History}
 use Rattle.hx_pool.specs.Table.{face_of}
 use Rattle.hx_connecting.specs.Around.{HasAround}
-use Rattle.hx_connecting.specs.Holds.{HasJust, HoldsConn, conn_at}
-use Rattle.hx_connecting.specs.Sessions.{Holding, Exchanging}
+use Rattle.hx_connecting.specs.Holds.{HasJust, HoldsConn}
+use Rattle.hx_connecting.specs.Sessions.{Exchanging}
 
 just_busy : (h : History) (n : SessionNo) (b c : BusyNow) (test : Bool) → c.id ≡ b.id → c.uses ≡ b.uses → HasJust h n (if test then Some (Exchanging b) else None)
     → HasJust h n (if test then Some (Exchanging c) else None)

@@ -1,5 +1,5 @@
 -- What the seat holds for a session that connects.
-use Rattle.std.proofs.Common.{◌≡◌, ℕ, Bool, List, [], ◌∷◌, ◌++◌, refl, sym, ap, subst, ◌∙◌, Option, Some, None, ⊎_elim, Ok}
+use Rattle.std.proofs.Common.{ℕ, Bool, [], ◌∷◌, sym, ap, ◌∙◌, Option, Some, None, ⊎_elim}
 use Rattle.hx_base.specs.declared.numbers.SessionNo.{SessionNo}
 use Rattle.hx_base.specs.declared.numbers.ServerNo.{ServerNo}
 use Rattle.hx_base.specs.declared.numbers.ConnId.{ConnId}
@@ -13,7 +13,7 @@ use Rattle.hx_pool.specs.declared.refusals.NoneOver.{NoneOver}
 use Rattle.hx_pool.specs.declared.refusals.NoneOver.TheVariants.{NotAllowed, BelowLow, NoneSeen}
 use Rattle.hx_pool.specs.Held.{held_by, HoldsJust}
 use Rattle.hx_pool.specs.Table.{face_of}
-use Rattle.hx_pool.specs.SeatView.{History, Calls}
+use Rattle.hx_pool.specs.SeatView.{History}
 use Rattle.hx_pool.specs.Taking.{TakesNoneOwn}
 use Rattle.hx_pool.specs.Takeover.{RefusesTakeover, counted}
 use Rattle.hx_pool.proofs.HeldCalls.{held_apart, looks_apart, opens_just, closes_just, takes_just}

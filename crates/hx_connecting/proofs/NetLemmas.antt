@@ -1,5 +1,5 @@
 -- What a net keeps through calls, and what it buries.
-use Rattle.std.proofs.Common.{◌≡◌, ◌⊎◌, ◌≤◌, ℕ, Bool, true, false, List, [], ◌∷◌, ◌++◌, refl, sym, ap, subst, ◌∙◌, inl, inr, arith, Option, Some, None, ⊎_elim, append_assoc}
+use Rattle.std.proofs.Common.{◌≡◌, ◌≤◌, ℕ, Bool, true, false, List, [], ◌∷◌, ◌++◌, refl, sym, ap, subst, ◌∙◌, inl, inr, arith, Option, Some, None, ⊎_elim, append_assoc}
 use Rattle.std.specs.Prelude.{IfSome, option_map, option_to_list}
 use Rattle.hx_base.specs.Counts.{Rose}
 use Rattle.hx_base.specs.declared.numbers.ThreadNo.{ThreadNo}

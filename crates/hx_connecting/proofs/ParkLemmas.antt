@@ -1,5 +1,5 @@
 -- The marks of a connection that a session parks, and of a park that was refused.
-use Rattle.std.proofs.Common.{◌≡◌, ℕ, ◌+◌, Bool, true, false, List, [], ◌∷◌, ◌++◌, refl, sym, ap, subst, ◌∙◌, inl, inr, arith, append_assoc, ⊎_elim}
+use Rattle.std.proofs.Common.{◌≡◌, ℕ, ◌+◌, true, false, List, [], ◌∷◌, ◌++◌, refl, sym, ap, subst, arith, ⊎_elim}
 use Rattle.std.specs.Prelude.{Contains}
 use Rattle.std.proofs.lemmas.List.Elements.{Contains-append_right}
 use Rattle.hx_base.specs.declared.numbers.ThreadNo.{ThreadNo}
@@ -9,18 +9,18 @@ use Rattle.hx_base.specs.declared.numbers.PlaceNo.{PlaceNo}
 use Rattle.hx_base.specs.declared.numbers.Face.{Face}
 use Rattle.hx_base.specs.Shown.{Shown}
 use Rattle.hx_pool.specs.declared.entries.Entry.{Entry}
-use Rattle.hx_pool.specs.declared.entries.Entry.TheVariants.{Open, Park, Take, Free, Close, Look, Up, Down, Count, Gate, SetGate, Round}
+use Rattle.hx_pool.specs.declared.entries.Entry.TheVariants.{Park, Take, Close, Look, Up, Down, Gate}
 use Rattle.hx_pool.specs.declared.entries.Note.{Note}
 use Rattle.hx_pool.specs.declared.entries.Found.{Found}
 use Rattle.hx_pool.specs.declared.refusals.NoPark.{NoPark}
 use Rattle.hx_pool.specs.declared.refusals.NoPark.TheVariants.{Never, NoneKept, RowFull, Draining, PoolFull}
-use Rattle.hx_pool.specs.History.{plain, marks_of}
-use Rattle.hx_pool.specs.SeatView.{About, History, Makes, Calls}
+use Rattle.hx_pool.specs.History.{plain}
+use Rattle.hx_pool.specs.SeatView.{About, History}
 use Rattle.hx_pool.specs.Causes.{AllLooks}
 use Rattle.hx_pool.specs.Opening.{Closes}
 use Rattle.hx_pool.specs.Taking.{taking}
 use Rattle.hx_pool.specs.Parking.{Parks, RefusesPark, Settles, FindsDraining, TakesBack, parked, gated}
-use Rattle.hx_connecting.specs.Touches.{Touch, touch_marks, went_marks, IsOf, AllOf, Balances, Went, Ends, EndsTakenBack, Rests}
+use Rattle.hx_connecting.specs.Touches.{went_marks, Ends, EndsTakenBack, Rests}
 use Rattle.hx_connecting.specs.Touched.{Marked, SeatMarks, RefusedMarks}
 use Rattle.hx_connecting.proofs.TouchLemmas.{marked_both, marked_none, marked_looks, marked_gate, marked_taking, seat_both, closes_seat}
 

@@ -1,5 +1,5 @@
 -- The seats of a worker.
-use Rattle.std.proofs.Common.{◌≡◌, ◌<◌, ℕ, zero, suc, List, [], ◌∷◌, length, map, get_or, refl, sym, ap, ◌∙◌, Some, None, arith}
+use Rattle.std.proofs.Common.{◌≡◌, ◌<◌, ℕ, zero, suc, List, [], ◌∷◌, length, map, get_or, refl, Some, arith}
 use Rattle.std.specs.List.{slice_get}
 
 -- the seat with this number

@@ -1,6 +1,5 @@
 -- The marks of a connection that a session takes, opens or closes.
-use Rattle.std.proofs.Common.{◌≡◌, ℕ, ◌+◌, Bool, true, false, List, [], ◌∷◌, ◌++◌, refl, sym, ap, subst, ◌∙◌, inl, inr, append_assoc, Option, Some, None, Ok, Err, ⊎_elim}
-use Rattle.std.proofs.lemmas.List.{append-nil}
+use Rattle.std.proofs.Common.{◌≡◌, ℕ, ◌+◌, Bool, true, false, List, [], ◌∷◌, ◌++◌, refl, sym, ap, subst, ◌∙◌, inl, inr, append_assoc, Option, Some, None, Ok, ⊎_elim}
 use Rattle.hx_base.specs.declared.numbers.ThreadNo.{ThreadNo}
 use Rattle.hx_base.specs.declared.numbers.SessionNo.{SessionNo}
 use Rattle.hx_base.specs.declared.numbers.ServerNo.{ServerNo}
@@ -19,23 +18,23 @@ use Rattle.hx_connecting.specs.Sessions.{Exchanging}
 use Rattle.hx_connecting.specs.Links.{GainsAll, LeavesPlans, plans_of, CourseStays}
 use Rattle.hx_connecting.proofs.WayLemmas.{begun_same, gains_stay, gains_eq, course_stays, course_attached, course_dialled, took_goes, attach_dials, dies_so, bury_dials, bury_gains, gains_dial, follows_stays, follows_ends, fails_none, opened_buries}
 use Rattle.hx_pool.specs.declared.entries.Entry.{Entry}
-use Rattle.hx_pool.specs.declared.entries.Entry.TheVariants.{Open, Park, Take, Free, Close, Look, Up, Down, Count, Gate, SetGate, Round}
+use Rattle.hx_pool.specs.declared.entries.Entry.TheVariants.{Open, Take, Close, Gate}
 use Rattle.hx_pool.specs.declared.entries.Note.{Note}
 use Rattle.hx_pool.specs.declared.refusals.NoneOver.{NoneOver}
 use Rattle.hx_pool.specs.declared.refusals.NoneOver.TheVariants.{NotAllowed, BelowLow, NoneSeen}
 use Rattle.hx_pool.specs.History.{plain, marks_of, what_of}
-use Rattle.hx_pool.specs.SeatView.{About, History, Makes, Calls}
+use Rattle.hx_pool.specs.SeatView.{About, History, Calls}
 use Rattle.hx_pool.specs.Causes.{AllLooks}
 use Rattle.hx_pool.specs.Opening.{Opens, Closes}
-use Rattle.hx_pool.specs.Taking.{Takes, TakesOwn, TakesNoneOwn, taking}
-use Rattle.hx_pool.specs.Takeover.{TakesOver, RefusesTakeover, counted}
+use Rattle.hx_pool.specs.Taking.{Takes, TakesNoneOwn, taking}
+use Rattle.hx_pool.specs.Takeover.{RefusesTakeover, counted}
 use Rattle.hx_pool.proofs.Calls.{makes_both, looks_marks}
 use Rattle.hx_pool.proofs.Histories.{marks_of-append}
 use Rattle.hx_connecting.specs.declared.connecting.Connected.{Connected}
 use Rattle.hx_connecting.specs.declared.connecting.Connected.TheVariants.{Begun, Dead, Refused}
-use Rattle.hx_connecting.specs.Connecting.{FindsOne, FindsNone, Finds, TriesRested, TriesNew, Connects, OpensNone, OpensOne}
-use Rattle.hx_connecting.specs.Touches.{Touch, touch_marks, IsOf, AllOf, Balances, Came, Had, Opened, Took, Went, Stays, Ends}
-use Rattle.hx_connecting.specs.Touched.{Marked, SeatMarks, marks_for, ComesTo, ConnectTouches}
+use Rattle.hx_connecting.specs.Connecting.{FindsOne, FindsNone, TriesRested, TriesNew, Connects}
+use Rattle.hx_connecting.specs.Touches.{IsOf, AllOf, Balances, Opened, Took, Stays, Ends}
+use Rattle.hx_connecting.specs.Touched.{Marked, SeatMarks, ConnectTouches}
 
 own_both : (n : SessionNo) (xs ys : List Note) → AllOf n xs → AllOf n ys → AllOf n (xs ++ ys)
 own_both n [] ys a b = b

@@ -1,5 +1,5 @@
 -- The way of a connection that is closed, parked or kept, at its own seat.
-use Rattle.std.proofs.Common.{◌≡◌, ℕ, ◌+◌, List, [], ◌∷◌, refl, sym, ap, subst, ◌∙◌, arith, Option, Some, None}
+use Rattle.std.proofs.Common.{◌≡◌, ◌+◌, List, refl, sym, ap, subst, arith, Option, Some, None}
 use Rattle.std.specs.Prelude.{Contains, IfSome}
 use Rattle.hx_base.specs.declared.numbers.ThreadNo.{ThreadNo}
 use Rattle.hx_base.specs.declared.numbers.SessionNo.{SessionNo}
@@ -22,10 +22,10 @@ use Rattle.hx_connecting.specs.Exchanges.{IsClosed, PassedEnds}
 use Rattle.hx_connecting.specs.Links.{IsSameLink}
 use Rattle.hx_connecting.specs.Sessions.{SessionNow, Holding, Resting, Exchanging, conn_link, conn_server, conn_id}
 use Rattle.hx_connecting.specs.Touches.{Touch, Went, Stays, Rests, Ends, EndsTakenBack}
-use Rattle.hx_connecting.specs.Ways.{NetStays, FitsRecord, stays_of, told_by, ConnStays, StaysWith, WayOf}
+use Rattle.hx_connecting.specs.Ways.{NetStays, FitsRecord, stays_of, told_by, ConnStays, WayOf}
 use Rattle.hx_connecting.proofs.AddedCalls.{had}
 use Rattle.hx_connecting.proofs.NetLemmas.{NetEnds, net_faults, net_buries, ends_after}
-use Rattle.hx_connecting.proofs.WayLemmas.{same_self, detaches_same}
+use Rattle.hx_connecting.proofs.WayLemmas.{detaches_same}
 use Rattle.hx_connecting.proofs.WayStays.{closed_ends}
 
 -- a record of a connection that is closed

@@ -1,13 +1,11 @@
 -- The way of a session's connection through its calls over the list of seats.
-use Rattle.std.proofs.Common.{◌≡◌, ◌⊎◌, ◌≤◌, ℕ, ◌+◌, zero, suc, true, false, Bool, List, [], ◌∷◌, ◌++◌, refl, sym, ap, subst, ◌∙◌, inl, inr, arith, Option, Some, None, ⊎_elim}
+use Rattle.std.proofs.Common.{◌≡◌, ◌≤◌, ℕ, ◌+◌, zero, suc, false, Bool, List, [], ◌∷◌, ◌++◌, refl, sym, ap, subst, ◌∙◌, inl, inr, arith, Option, Some, None, ⊎_elim}
 use Rattle.std.specs.Prelude.{IfSome, Contains}
 use Rattle.std.specs.List.{slice_get, slice_set}
 use Rattle.hx_base.specs.declared.numbers.ThreadNo.{ThreadNo}
 use Rattle.hx_base.specs.declared.numbers.SessionNo.{SessionNo}
 use Rattle.hx_base.specs.declared.numbers.ServerNo.{ServerNo}
 use Rattle.hx_base.specs.declared.numbers.ConnId.{ConnId}
-use Rattle.hx_base.specs.declared.numbers.PlaceNo.{PlaceNo}
-use Rattle.hx_base.specs.declared.what.What.{What}
 use Rattle.hx_base.specs.Shown.{Shown}
 use Rattle.hx_message.specs.declared.MethodKind.{MethodKind}
 use Rattle.hx_link.specs.Told.{LinkState}
@@ -23,20 +21,19 @@ use Rattle.hx_pool.specs.Opening.{Closes}
 use Rattle.hx_record.specs.declared.served.Served.{Served}
 use Rattle.hx_connecting.specs.declared.connecting.Connected.{Connected}
 use Rattle.hx_connecting.specs.declared.connecting.Connected.TheVariants.{Begun, Dead, Refused}
-use Rattle.hx_connecting.specs.Adding.{SeatAdds, EachAdds, AddsFor, TouchesSeats}
+use Rattle.hx_connecting.specs.Adding.{SeatAdds, EachAdds, AddsFor}
 use Rattle.hx_connecting.specs.Around.{HasAround, resting}
 use Rattle.hx_connecting.specs.Closing.{ClosesAt, ClosesHeld, ConnectsTo}
 use Rattle.hx_connecting.specs.Connecting.{Connects, TriesRested, TriesNew, Dies}
-use Rattle.hx_connecting.specs.Exchanges.{BeginsAt}
-use Rattle.hx_connecting.specs.Sessions.{SessionNow, Holding, Resting, Exchanging, admitted, conn_server, conn_id}
+use Rattle.hx_connecting.specs.Sessions.{SessionNow, Holding, Resting, Exchanging, admitted, conn_server}
 use Rattle.hx_connecting.specs.Settling.{SettlesAs, RestsAs}
 use Rattle.hx_connecting.specs.Touched.{SeatMarks, marks_for, ComesTo, conn_after, GoesFor, AllStand}
-use Rattle.hx_connecting.specs.Touches.{Touch, touch_marks, went_marks, Went, Rests, Ends}
+use Rattle.hx_connecting.specs.Touches.{Touch, touch_marks, Rests, Ends}
 use Rattle.hx_connecting.specs.Ways.{NetStays, ConnStays, StaysWith, StaysOn, WayOf, WayAt, WayFor, SomeWay, RestWay}
 use Rattle.hx_connecting.proofs.AddedCalls.{had, went_none, server_same}
 use Rattle.hx_connecting.proofs.AddingLemmas.{seat_adds, nothing, joined, adds_set, adds_no_touch, adds_touch, adds_then, holds_stand}
 use Rattle.hx_connecting.proofs.AroundLemmas.{holds_here, numbered_here, seat_set}
-use Rattle.hx_connecting.proofs.NetLemmas.{NetEnds, net_then, net_is, net_same, net_faults, net_buries, ends_after, ends_before}
+use Rattle.hx_connecting.proofs.NetLemmas.{NetEnds, net_then, net_is, net_faults, net_buries, ends_after, ends_before}
 use Rattle.hx_connecting.proofs.ParkLemmas.{parks_at, refused_end}
 use Rattle.hx_connecting.proofs.TouchLemmas.{closes_seat, connects_touch}
 use Rattle.hx_connecting.proofs.TouchedCalls.{IsPassed, EndsFor, ends_way, busy_way, held_way, kept_stays, parked_way, refused_way}
@@ -139,26 +136,26 @@ settled_way t n first b olds news old new net mid net' None served a there is fa
     let c : Option Holding = Some (Exchanging b) in
     let thread = (holds_here t n c 0 b.server.0 olds old there a.holds).0 in
     let w : SomeWay t n first c None olds news net net' served = ⊎_elim
-        (λ p.
-        let at = parks_at old new n p.0 (shown r) p.1 in
-        let x : Touch = had b.server b.id (Rests p.0 (b.uses + 1)) in
-        let stays = net_then net mid net' (net_faults net mid faults) (net_is mid net' p.2) in
-        let there : Contains at.seat.added (record { entry = Park t n b.id p.0 (b.uses + 1); what = Some (what_of_link r.link) }) =
-        subst (λ (u : ThreadNo). Contains at.seat.added (record { entry = Park u n b.id p.0 (b.uses + 1); what = Some (what_of_link r.link) })) thread at.there in
-        some_at t n first c None c x olds news old new net net' served a there_was is (went_none old.about.thread n b.id (Rests p.0 (b.uses + 1))) at.seat stays.faults
-        (parked_way t n b new at.seat.added net net' p.0 served passed ends stays there))
-        (λ p.
-        let v = p.2 in
-        let what : what_of_link v.link ≡ what_of_link r.link = ap (λ (s : Shown). s.what) p.5 in
-        let id : v.id ≡ b.id = ap (λ (s : Shown). s.face.id) p.5 in
-        let server : v.server ≡ b.server = ap (λ (s : Shown). s.server) p.5 in
-        let dial : TellsDial b.server b.id v.link = subst (λ (s : ServerNo). TellsDial s b.id v.link) server (subst (λ (i : ConnId). TellsDial v.server i v.link) id p.4.dial) in
-        let e = refused_end old p.0 new n (shown r) p.1 p.3 (subst (λ (i : ConnId). Closes p.0 new n i) id p.6.closes) in
-        let x : Touch = had b.server b.id e.went in
-        let gone = ends_after net mid net' v.link (net_faults net mid faults) (net_buries mid net' v.link p.6.buries) in
-        some_at t n first c None c x olds news old new net net' served a there_was is (went_none old.about.thread n b.id e.went) e.seat gone.faults
-        (refused_way t n b v.link e.went new e.seat.added net net' served e.closed what dial gone))
-        k.1 in
+    (λ p.
+    let at = parks_at old new n p.0 (shown r) p.1 in
+    let x : Touch = had b.server b.id (Rests p.0 (b.uses + 1)) in
+    let stays = net_then net mid net' (net_faults net mid faults) (net_is mid net' p.2) in
+    let there : Contains at.seat.added (record { entry = Park t n b.id p.0 (b.uses + 1); what = Some (what_of_link r.link) }) =
+    subst (λ (u : ThreadNo). Contains at.seat.added (record { entry = Park u n b.id p.0 (b.uses + 1); what = Some (what_of_link r.link) })) thread at.there in
+    some_at t n first c None c x olds news old new net net' served a there_was is (went_none old.about.thread n b.id (Rests p.0 (b.uses + 1))) at.seat stays.faults
+    (parked_way t n b new at.seat.added net net' p.0 served passed ends stays there))
+    (λ p.
+    let v = p.2 in
+    let what : what_of_link v.link ≡ what_of_link r.link = ap (λ (s : Shown). s.what) p.5 in
+    let id : v.id ≡ b.id = ap (λ (s : Shown). s.face.id) p.5 in
+    let server : v.server ≡ b.server = ap (λ (s : Shown). s.server) p.5 in
+    let dial : TellsDial b.server b.id v.link = subst (λ (s : ServerNo). TellsDial s b.id v.link) server (subst (λ (i : ConnId). TellsDial v.server i v.link) id p.4.dial) in
+    let e = refused_end old p.0 new n (shown r) p.1 p.3 (subst (λ (i : ConnId). Closes p.0 new n i) id p.6.closes) in
+    let x : Touch = had b.server b.id e.went in
+    let gone = ends_after net mid net' v.link (net_faults net mid faults) (net_buries mid net' v.link p.6.buries) in
+    some_at t n first c None c x olds news old new net net' served a there_was is (went_none old.about.thread n b.id e.went) e.seat gone.faults
+    (refused_way t n b v.link e.went new e.seat.added net net' served e.closed what dial gone))
+    k.1 in
     record { touch = w.touch; may = inr refl; at = w.at; way = w.way }
   where
     there_was : slice_get olds b.server.0 ≡ Some old
@@ -363,7 +360,7 @@ closes_then t n first c r seats0 seats seats' added net0 net mid net' served a a
     let es : List (List Note) = slice_set (nothing seats) j s.added in
     let thread = (holds_here t n (Some (Resting r)) 0 j seats k.old k.was a.holds).0 in
     let more : AddsFor t n first (Some x) seats seats' es = subst (λ (hs : List History). AddsFor t n first (Some x) seats hs es) (sym k.seats)
-        (adds_touch t n first x seats k.old k.new s.added (holds_stand t n (Some (Resting r)) 0 seats a.holds) k.was thread (seat_adds k.old k.new n first (touch_marks k.old.about.thread n first x) (tt, tt) s)) in
+    (adds_touch t n first x seats k.old k.new s.added (holds_stand t n (Some (Resting r)) 0 seats a.holds) k.was thread (seat_adds k.old k.new n first (touch_marks k.old.about.thread n first x) (tt, tt) s)) in
     let was = adds_back n first _ 0 seats0 seats added j k.old adds k.was in
     let there = adds_there n first _ 0 seats0 seats added j was.0 adds was.1 in
     let gone = ends_before net0 mid net' r.link (ends_after net0 net mid r.link kept (net_buries net mid r.link k.closed.buries)) (net_faults mid net' faults) in

@@ -1,6 +1,6 @@
 -- How links go on through calls, and nets.
 use Rattle.std.proofs.Common.{◌≡◌, ℕ, ◌+◌, ◌≤◌, Bool, true, false, List, [], ◌∷◌, ◌++◌, length, refl, sym, ap, subst, ◌∙◌, inl, inr, arith, Option, Some, None, ⊎_elim, append_assoc}
-use Rattle.std.specs.Prelude.{IfSome, IsSome, option_map, take, ◌⊎◌}
+use Rattle.std.specs.Prelude.{IfSome, IsSome, option_map, take}
 use Rattle.std.proofs.lemmas.List.{append-nil}
 use Rattle.hx_base.specs.declared.what.What.{What}
 use Rattle.hx_base.specs.declared.what.LinkTold.{LinkTold}
@@ -9,7 +9,7 @@ use Rattle.hx_base.specs.declared.plan.Plan.{Plan}
 use Rattle.hx_conn.specs.WhatTold as whats
 use Rattle.hx_conn.specs.WhatTold.{what_of_link}
 use Rattle.hx_conn.specs.Conns.{RestedNow, BusyNow}
-use Rattle.hx_conn.specs.Steps.{Probes, ProbesOk, ProbesDead, BeginsOk, BeginsDead}
+use Rattle.hx_conn.specs.Steps.{Probes, ProbesOk, BeginsOk}
 use Rattle.hx_link.specs.Told.{LinkState}
 use Rattle.hx_link.specs.Links.{LinkReads, LinkWrites, LinkFinishes}
 use Rattle.hx_link.specs.declared.answers.Put.{Put}
@@ -24,7 +24,7 @@ use Rattle.hx_connecting.specs.Exchanges.{BeginsAt, TookGoes}
 use Rattle.hx_connecting.specs.Touches.{Opened, Stays, Ends}
 use Rattle.hx_connecting.specs.Links.{DialFollows}
 use Rattle.hx_link.specs.Courses.{Course, attached, after_attach, after_dial, without_next, attach_fails}
-use Rattle.hx_link.specs.Nets.{NetState, AttachCounted, OnlyFaults, NetBuries, NetDetaches, StaysTold, GainsTold, TellsDial, DialTold, FollowsNext, HasNoNext}
+use Rattle.hx_link.specs.Nets.{NetState, AttachCounted, NetBuries, NetDetaches, StaysTold, GainsTold, TellsDial, DialTold, FollowsNext, HasNoNext}
 use Rattle.hx_link.specs.declared.answers.Got.{Got}
 use Rattle.hx_link.specs.declared.answers.Got.TheVariants as got
 use Rattle.hx_connecting.specs.Links.{GrowsTold, IsSameLink, GainsAll, LeavesPlans, plans_of, CourseStays}

@@ -1,6 +1,6 @@
 -- A connection that stays with its session, from call to call.
-use Rattle.std.proofs.Common.{◌≡◌, ◌⊎◌, ◌≤◌, ℕ, ◌+◌, Bool, List, [], ◌∷◌, ◌++◌, refl, sym, ap, subst, ◌∙◌, inl, inr, arith, Option, Some, None, ⊎_elim, append_assoc}
-use Rattle.std.specs.Prelude.{Contains, IfSome, option_map}
+use Rattle.std.proofs.Common.{◌≡◌, ℕ, ◌+◌, List, ◌++◌, refl, sym, ap, subst, ◌∙◌, inl, inr, Option, Some, None, ⊎_elim}
+use Rattle.std.specs.Prelude.{IfSome}
 use Rattle.std.proofs.lemmas.List.Elements.{Contains-append_right}
 use Rattle.hx_base.specs.Spans.{bytes_in}
 use Rattle.hx_base.specs.declared.numbers.ThreadNo.{ThreadNo}
@@ -20,10 +20,10 @@ use Rattle.hx_record.specs.declared.served.Kind.{Kind}
 use Rattle.hx_record.specs.declared.served.Kind.TheVariants as kind
 use Rattle.hx_record.specs.declared.served.Served.{Served}
 use Rattle.hx_connecting.specs.Exchanges.{HadGoes, IsSameExchange, ExchangeGoes, PassedEnds, EndsWith, IsClosed, CameGoes}
-use Rattle.hx_connecting.specs.Links.{IsSameLink, GoesOn, LinkGoes, TellsBefore, TellsAfter}
+use Rattle.hx_connecting.specs.Links.{IsSameLink, GoesOn, TellsBefore, TellsAfter}
 use Rattle.hx_connecting.specs.Sessions.{SessionNow, Holding, Resting, Exchanging, IsSomeAnd, conn_link, conn_server, conn_id}
 use Rattle.hx_connecting.specs.Touches.{Touch, Came, Had, Opened, Took, Went, Stays, Rests, Ends, EndsTakenBack}
-use Rattle.hx_connecting.specs.Ways.{NetStays, IsOwn, GivesOwn, FitsRecord, stays_of, told_by, ConnStays, StaysWith, ExchangeStays, ToldStays, StaysOn, WayOf, WayAt, WayFor}
+use Rattle.hx_connecting.specs.Ways.{IsOwn, GivesOwn, FitsRecord, stays_of, told_by, StaysWith, ExchangeStays, ToldStays, StaysOn, WayOf}
 use Rattle.hx_connecting.proofs.WayLemmas.{same_self, same_then}
 
 exchange_self : (b : BusyNow) → IsSameExchange b b

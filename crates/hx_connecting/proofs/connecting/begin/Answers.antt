@@ -1,4 +1,4 @@
-use Rattle.std.proofs.Common.{ap, refl, subst, inl}
+use Rattle.std.proofs.Common.{refl, subst, inl}
 use Rattle.hx_base.specs.declared.numbers.ConnId.{ConnId}
 use Rattle.hx_conn.specs.Steps.{ProbesDead}
 use Rattle.hx_connecting.proofs.connecting.begin.Goals as goal
