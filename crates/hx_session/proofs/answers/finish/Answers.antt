@@ -42,6 +42,7 @@ returns g c =
           counts = (c.after_pass.ensures.touches d0 passed.touches.0 passed.touches.1).1;
           at = passed.touches.2;
         });
+        picks = c.after_pass.ensures.picks (exchange_now c.args.exchange) olds news;
         routed = λ back r. c.after_pass.ensures.routed back (rest_routed back c.args.exchange.busy.server c.pass-held.result.1 r.to_conn passed.server);
         told = c.after_pass.ensures.told d0 (exchange_now c.args.exchange) c.is_closing-closing.ensures passed.gives passed.told;
       };

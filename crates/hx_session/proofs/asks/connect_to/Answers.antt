@@ -8,6 +8,8 @@ use Rattle.hx_connecting.proofs.AddedCalls.{connects_touches}
 use Rattle.hx_session.specs.Parting.{first_of}
 use Rattle.hx_session.proofs.PartingLemmas.{first_is}
 use Rattle.hx_session.specs.Desks.{desk_now, DeskNow}
+use Rattle.hx_session.specs.Stages.{choosing_now}
+use Rattle.hx_session.proofs.PickLemmas.{to_connected}
 use Rattle.hx_session.proofs.asks.connect_to.Goals as goal
 
 pub returns : goal.returns
@@ -25,6 +27,7 @@ returns g c =
         placed = a.placed news set.numbered (k.around d.worker set.around c.requires.loop_) k.own;
         keeps = record { desk = a.who; about = k.abouts; loop_no = k.loop_ };
         touches = inr (connects_touches d.worker d.session (first_of d) c.args.to.0 olds news _ _ _ _ c.args.choosing.held c.connect-connected.result set.around connects);
+        picks = to_connected d.worker d.session (first_of d) olds news _ _ _ _ c.connect-connected.result (choosing_now c.args.choosing) c.args.to.0 _ c.requires.chosen c.requires.placed.good set.around connects a.picks;
         routed = λ back r. a.routed back news (subst (λ (o : Option ServerNo). IfSome o (λ v. Contains (servers_of back) v)) c.requires.chosen r.to_chosen) k.own;
         told = a.told;
       };

@@ -10,6 +10,7 @@ use Rattle.hx_session.specs.Desks.{desk_now, DeskNow}
 use Rattle.hx_session.specs.Exchanged.{exchange_now, ExchangeNow}
 use Rattle.hx_session.specs.declared.stage.Came.{Came}
 use Rattle.hx_session.specs.Ending.{EndsInCut}
+use Rattle.hx_session.proofs.PickLemmas.{busy_some}
 use Rattle.hx_session.proofs.ending.cut.Goals as goal
 
 pub returns-clause-ends : goal.returns-clause-ends
@@ -41,3 +42,4 @@ returns-clause-goes g c =
       at = busy_touches d.worker d.session (first_of d) _ e.busy.server e.busy.id olds news _ _ e.busy.link c.requires.set.around k.closes;
     }))
     (cut_told d d1 d2 e c.args.cause c.cut_off-served.result c.requires.ends k.cuts is)
+    (λ none. busy_some e.busy none _ _ _)

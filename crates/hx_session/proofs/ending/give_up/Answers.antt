@@ -1,4 +1,4 @@
-use Rattle.std.proofs.Common.{List, map, sym, subst, inr, arith, Some, None}
+use Rattle.std.proofs.Common.{List, map, sym, ap, subst, inr, arith, Some, None}
 use Rattle.hx_pool.specs.SeatView.{History}
 use Rattle.hx_connecting.specs.Touches.{Ends as Closes}
 use Rattle.hx_connecting.proofs.AddedCalls.{had, busy_touches}
@@ -8,6 +8,8 @@ use Rattle.hx_session.specs.Stages.{StageNow}
 use Rattle.hx_session.specs.Standing.{IsPlaced, IsRoutedTo}
 use Rattle.hx_session.proofs.StandingLemmas.{answers_keep, answers_set, gave_none}
 use Rattle.hx_session.proofs.TellLemmas.{answers_none}
+use Rattle.hx_session.specs.Seen.{chosen_seen}
+use Rattle.hx_session.proofs.PickLemmas.{to_unchosen}
 use Rattle.hx_session.proofs.ending.give_up.Goals as goal
 
 pub returns : goal.returns
@@ -32,6 +34,7 @@ returns g c =
           counts = tt;
           at = busy_touches d.worker d.session (first_of d) _ b.server b.id (map f c.args.seats.now) news _ _ b.link set.around c.close_busy.ensures.closes;
         });
+        picks = to_unchosen b (map f c.args.seats.now) news _ (ap chosen_seen c.answer-stage.ensures.stage);
         routed = λ back r. subst (λ (s : StageNow). IsRoutedTo back s) (sym c.answer-stage.ensures.stage) (record { to_conn = tt; to_chosen = tt });
         told = answers_none d d2 c.args.own.status a;
       };
