@@ -29,9 +29,11 @@ use Rattle.hx_connecting.specs.Ways.{GivesOwn, ExchangeStays, ToldStays}
 use Rattle.hx_session.specs.Parting.{PartTouches, CameKeeps, came_conn, came_served}
 use Rattle.hx_connecting.specs.Touched.{AllStand}
 use Rattle.hx_connecting.proofs.AddingLemmas.{holds_stand}
-use Rattle.hx_session.proofs.PartingLemmas.{part_from, parted, parted_behind, parted_none, counts_same, stage_part, went_way}
+use Rattle.hx_session.proofs.PartingLemmas.{part_from, parted, parted_behind, parted_none, counts_same, stage_part, went_way, parted_from}
 use Rattle.hx_session.proofs.StaysLemmas.{carries_told}
-use Rattle.hx_session.specs.Seen.{conn_seen}
+use Rattle.hx_session.specs.Seen.{conn_seen, chosen_seen}
+use Rattle.hx_session.specs.Picking.{Picks}
+use Rattle.hx_session.proofs.PickLemmas.{picks_from, to_answer}
 use Rattle.hx_session.specs.Stages.{StageNow, Exchanging, StandsSo, IsBetween, own_stage, stage_now}
 use Rattle.hx_session.specs.Standing.{CamePlaced, CameRouted, Goes, ComesTo, IsNumbered, IsSet, IsPlaced, KeepsDesk, KeepsAsk, KeepsPlace, KeepsOver, IsSameConn, IsRoutedTo}
 use Rattle.hx_session.specs.Telling.{CameTells, IsStillTold, TellsMoved}
@@ -68,6 +70,7 @@ goes_from_desk d d' d2 s seats seats' net net' c k number g still = record {
   placed = g.placed;
   keeps = place_then d d' d2 seats seats seats' net net net' (place_in d d' seats net k) g.keeps;
   touches = part_from d d' d2 s seats seats' net net' c k.who.worker k.who.session number g.touches;
+  picks = g.picks;
   routed = g.routed;
   told = came_then d d' d2 s s c still g.told;
 }
@@ -75,8 +78,8 @@ goes_from_desk d d' d2 s seats seats' net net' c k number g still = record {
 -- a part after which the step goes on, or is over, at the same stage
 pub goes_same : {X : Type 0} (d d' : DeskNow) (stage : Stage X) (seats : List History) (net : NetState) (c : Came X) → KeepsDesk d d' → (IsPlaced d' (stage_now stage) seats → CamePlaced d' c seats)
     → ((back : Back) → IsRoutedTo back (stage_now stage) → CameRouted back c) → PartTouches d (stage_now stage) seats net d' c seats net → IsPlaced d' (stage_now stage) seats → CameTells d (stage_now stage) d' c
-    → Goes d (stage_now stage) seats net d' c seats net
-goes_same d d' stage seats net c k placed routed touches p told = record { placed = placed p; keeps = place_in d d' seats net k; touches = touches; routed = routed; told = told }
+    → Picks (conn_seen (stage_now stage)) (chosen_seen (stage_now stage)) seats c seats → Goes d (stage_now stage) seats net d' c seats net
+goes_same d d' stage seats net c k placed routed touches p told picks = record { placed = placed p; keeps = place_in d d' seats net k; touches = touches; picks = picks; routed = routed; told = told }
 
 -- the connection's server stays
 pub conn_routed : (back : Back) (e e' : ExchangeNow) → IsSameConn e e' → IsRoutedTo back (Exchanging e) → IsRoutedTo back (Exchanging e')
@@ -89,6 +92,7 @@ goes_from_exchange d d' d2 e e' seats seats' net net' c all k same stays bytes g
   placed = g.placed;
   keeps = place_then d d' d2 seats seats seats' net net net' (place_in d d' seats net k.desk) g.keeps;
   touches = inr (parted_behind d d' d2 e e' seats seats' net net' c k.desk.who.worker k.desk.who.session k.number stays bytes (parted d' d2 (Exchanging e') seats seats' net net' c all g.touches));
+  picks = picks_from (conn_seen (Exchanging e)) (conn_seen (Exchanging e')) None None seats seats' c refl (e'.busy, refl) g.picks;
   routed = λ back r. g.routed back (conn_routed back e e' same r);
   told = told;
 }
@@ -107,12 +111,13 @@ still_keeps d d' e e' k =
 pub went_on : {X : Type 0} (d d' : DeskNow) (e e' : ExchangeNow) (seats : List History) (net : NetState) (c : Came X) → IsPlaced d (Exchanging e) seats → KeepsAsk d d' → IsSameConn e e' → IsCarried d' e'
     → e'.busy.exchange.failed ≡ e.busy.exchange.failed → (IsPlaced d' (Exchanging e') seats → CamePlaced d' c seats) → ((back : Back) → IsRoutedTo back (Exchanging e') → CameRouted back c)
     → CameTells d (Exchanging e) d' c → came_conn c ≡ conn_seen (Exchanging e') → came_served c ≡ None → ExchangeStays e.busy e'.busy → IsStillTold d (Exchanging e) d' (Exchanging e')
-    → Goes d (Exchanging e) seats net d' c seats net
-went_on d d' e e' seats net c p k same carried failed placed routed told conn none stays still = record {
+    → Picks (conn_seen (Exchanging e')) None seats c seats → Goes d (Exchanging e) seats net d' c seats net
+went_on d d' e e' seats net c p k same carried failed placed routed told conn none stays still picks = record {
   placed = placed (placed_on d d' e e' seats p k same carried failed);
   keeps = place_in d d' seats net k.desk;
   touches = inr (parted_none d d' (Exchanging e) seats seats net net c (holds_stand d.worker d.session (conn_seen (Exchanging e)) 0 seats p.set.around.holds) refl (counts_same d d' c k.number)
       (went_way c d.worker d.session e.busy e'.busy seats _ net conn none stays (still_keeps d d' e e' still)));
+  picks = picks_from (conn_seen (Exchanging e)) (conn_seen (Exchanging e')) None None seats seats c refl (e'.busy, refl) picks;
   routed = λ back r. routed back (conn_routed back e e' same r);
   told = told;
 }
@@ -120,9 +125,9 @@ went_on d d' e e' seats net c p k same carried failed placed routed told conn no
 -- an exchange that is as it was
 pub still_on : {X : Type 0} (d : DeskNow) (e : ExchangeNow) (seats : List History) (net : NetState) (c : Came X) → IsPlaced d (Exchanging e) seats → came_conn c ≡ conn_seen (Exchanging e) → came_served c ≡ None
     → (IsPlaced d (Exchanging e) seats → CamePlaced d c seats) → ((back : Back) → IsRoutedTo back (Exchanging e) → CameRouted back c) → CameTells d (Exchanging e) d c
-    → Goes d (Exchanging e) seats net d c seats net
-still_on d e seats net c p conn none placed routed told =
-    record { placed = placed p; keeps = place_in d d seats net (desk_none d); touches = inl (refl, refl, conn, counts_same d d c refl, subst (λ (o : Option Served). GivesOwn o (conn_seen (Exchanging e))) (sym none) tt); routed = routed; told = told }
+    → Picks (conn_seen (Exchanging e)) None seats c seats → Goes d (Exchanging e) seats net d c seats net
+still_on d e seats net c p conn none placed routed told picks =
+    record { picks = picks; placed = placed p; keeps = place_in d d seats net (desk_none d); touches = inl (refl, refl, conn, counts_same d d c refl, subst (λ (o : Option Served). GivesOwn o (conn_seen (Exchanging e))) (sym none) tt); routed = routed; told = told }
 
 -- an own answer is decided outside of an exchange
 pub goes_answering : {X : Type 0} (d d' : DeskNow) (s : StageNow) (status : ℕ) (held : Option RestedNow) (seats : List History) (net : NetState) (stage : Stage X) (w : Waiting)
@@ -132,6 +137,7 @@ goes_answering d d' s status held seats net stage w conn between numbered around
   placed = subst (λ (x : StageNow). IsPlaced d' x seats) (sym is) (answers_set d d' status held seats a between.anew.desk between.anew.given numbered around own);
   keeps = place_in d d' seats net (answers_keep d d' status a);
   touches = inl (refl, refl, ap conn_seen is ∙ sym conn, tt, tt);
+  picks = to_answer (chosen_seen s) (conn_seen s) seats (stage_now stage) status held is;
   routed = λ back r. subst (λ (x : StageNow). IsRoutedTo back x) (sym is) (record {
     to_conn = subst (λ (c : Option seen.Holding). IfSome c (λ x. Contains (servers_of back) (seen.conn_server x))) conn r.to_conn;
     to_chosen = tt;
@@ -142,7 +148,7 @@ goes_answering d d' s status held seats net stage w conn between numbered around
 -- a part that comes to another stage, and ends the step
 pub goes_to : {X : Type 0} (d d' : DeskNow) (s : StageNow) (seats seats' : List History) (net net' : NetState) (stage : Stage X) (w : Waiting)
     → ComesTo d s seats net d' (stage_now stage) seats' net' → TellsMoved s d d' None → Goes d s seats net d' (Moved stage w None) seats' net'
-goes_to d d' s seats seats' net net' stage w c told = record { placed = c.placed; keeps = c.keeps; touches = stage_part d d' s stage w seats seats' net net' c.touches; routed = c.routed; told = told }
+goes_to d d' s seats seats' net net' stage w c told = record { placed = c.placed; keeps = c.keeps; touches = stage_part d d' s stage w seats seats' net net' c.touches; picks = c.picks; routed = c.routed; told = told }
 
 -- a stage after a call that gives, and after a read of the client
 pub gave_placed : (d d' : DeskNow) (s : StageNow) (now : ℕ) (m : Move) (seats : List History) → IsDesk d' → GivesClient d d' now m → IsPlaced d s seats → IsPlaced d' s seats

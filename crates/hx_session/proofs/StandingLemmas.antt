@@ -26,6 +26,8 @@ use Rattle.hx_session.specs.Fits.{GoesTo}
 use Rattle.hx_session.specs.Over.{after_record}
 use Rattle.hx_session.specs.Parting.{PartTouches}
 use Rattle.hx_session.specs.Since.{HasSince}
+use Rattle.hx_session.specs.Picking.{Picks}
+use Rattle.hx_session.specs.Seen.{chosen_seen, conn_seen}
 use Rattle.hx_session.specs.Stages.{own_stage, StageNow, ChoosingNow, Reading, Choosing, Exchanging, Answering, IsBetween}
 use Rattle.hx_session.specs.declared.stage.Came.{Came}
 use Rattle.hx_session.specs.declared.stage.Came.TheVariants.{Ends}
@@ -185,11 +187,12 @@ placed_on d d' e e' seats p k c carried failed = record { set = set_on d d' e e'
 
 -- a part of a step after which the session leaves
 pub goes_ends : {X : Type 0} (d d' : DeskNow) (s : StageNow) (seats seats' : List History) (net net' : NetState) (c : Came X) (x : Ending X) → c ≡ Ends x → KeepsPlace d d' seats seats' net net'
-    → IsLeaving d' x.held seats' → PartTouches d s seats net d' (Ends x) seats' net' → TellsEnd s d d' x.served x.cause → Goes d s seats net d' c seats' net'
-goes_ends {X = X} d d' s seats seats' net net' c x is keeps leaving touches told = record {
+    → IsLeaving d' x.held seats' → PartTouches d s seats net d' (Ends x) seats' net' → TellsEnd s d d' x.served x.cause → Picks (conn_seen s) (chosen_seen s) seats (Ends x) seats' → Goes d s seats net d' c seats' net'
+goes_ends {X = X} d d' s seats seats' net net' c x is keeps leaving touches told picks = record {
   placed = subst (λ (y : Came X). CamePlaced d' y seats') (sym is) leaving;
   keeps = keeps;
   touches = subst (λ (y : Came X). PartTouches d s seats net d' y seats' net') (sym is) touches;
+  picks = subst (λ (y : Came X). Picks (conn_seen s) (chosen_seen s) seats y seats') (sym is) picks;
   routed = λ back r. subst (λ (y : Came X). CameRouted back y) (sym is) tt;
   told = subst (λ (y : Came X). CameTells d s d' y) (sym is) told;
 }

@@ -1,10 +1,16 @@
 -- Where the ranges of a record end whose exchange is cut off.
-use Rattle.std.specs.Prelude.{◌≡◌, ℕ, ◌+◌, ◌<◌, ◌≤◌, List, ◌++◌, length, take, Option, Some, None}
+use Rattle.std.specs.Prelude.{◌≡◌, ℕ, ◌+◌, ◌<◌, ◌≤◌, List, ◌++◌, length, take, Option, Some, None, ◌-◌, Bool, true, false, ⊤}
 use Rattle.hx_frame.specs.Meters.{NoBodyBegins}
 use Rattle.hx_message.specs.declared.MethodKind.{MethodKind}
 use Rattle.hx_message.specs.declared.BodyKind.{BodyKind}
 use Rattle.hx_message.specs.declared.BodyKind.TheVariants.{ToEnd}
 use Rattle.hx_message.specs.Body.{IsBody}
+use Rattle.hx_frame.specs.declared.progress.MeterState.TheVariants.{Bad}
+use Rattle.hx_session_parts.specs.OnWay.{AreInterimsOnWay}
+use Rattle.hx_session.specs.declared.exchange.AnswerWay.{AnswerWay}
+use Rattle.hx_session.specs.declared.exchange.AnswerWay.TheVariants.{Heads, Body}
+use Rattle.hx_session.specs.Answering.{CarriesAnswer}
+use Rattle.hx_session.specs.Desks.{DeskNow}
 use Rattle.hx_message.specs.Partial.{EndsRequest, EndsAnswer, HasShortAnswer}
 
 -- behind these bytes of a body the first byte that waits is one after which no body of that kind follows
@@ -33,3 +39,29 @@ pub record EndsAsk (taken waiting : List ℕ) (n : ℕ) : Type 0 where
 pub record EndsAnswerAt (m : MethodKind) (taken waiting : List ℕ) (n : ℕ) : Type 0 where
   pub within : n ≤ length waiting
   pub ends : EndsAnswer m (taken ++ waiting) (length taken + n)
+
+-- so many bytes of an answer were dropped up to its end, or none of the bytes ends it
+pub record Drops (m : MethodKind) (taken old new : List ℕ) (found : Bool) : Type 0 where
+  pub ends : found ≡ true → HasShortAnswer m (taken ++ old) (length taken + (length old - length new))
+  pub none : found ≡ false → (k : ℕ) → HasShortAnswer m (taken ++ old) k → ⊥
+
+-- interim heads stand in front of the bytes that are left
+pub record DropsHeads (old new : List ℕ) : Type 0 where
+  pub heads : List ℕ
+  pub is : old ≡ heads ++ new
+  pub on : (taken put : List ℕ) → AreInterimsOnWay taken put → (more : List ℕ) × AreInterimsOnWay (taken ++ heads) more
+
+-- where the body of an answer that is carried is bad, the next byte that waits breaks it
+abbrev pub BreaksCarried : (a : AnswerWay) (wants written : Bool) (m : MethodKind) (taken put waiting : List ℕ) → CarriesAnswer a wants written m taken put → Type 0
+BreaksCarried Heads wants written m taken put waiting c = ⊤
+BreaksCarried (Body b) wants written m taken put waiting c = b.state ≡ Bad → BreaksHere c.kind c.way.body waiting
+
+-- the request of which that was taken, and of which the pipe has the rest, ends at that byte of the client
+pub record EndsAskAt (d : DeskNow) (taken : List ℕ) (n : ℕ) : Type 0 where
+  pub from : d.ask_from ≤ n
+  pub ends : EndsRequest (taken ++ d.from.bytes) (n - d.ask_from)
+
+-- the same of an answer on its connection
+pub record EndsAnswerFrom (m : MethodKind) (from : ℕ) (bytes : List ℕ) (n : ℕ) : Type 0 where
+  pub behind : from ≤ n
+  pub ends : EndsAnswer m bytes (n - from)

@@ -19,7 +19,8 @@ use Rattle.hx_session.specs.Ending.{HasOwn}
 use Rattle.hx_session.specs.Exchanged.{ExchangeNow}
 use Rattle.hx_session.specs.Fits.{GoesTo}
 use Rattle.hx_session.specs.Parting.{PartTouches, StageTouches}
-use Rattle.hx_session.specs.Seen.{conn_seen}
+use Rattle.hx_session.specs.Picking.{Picks, PicksTo}
+use Rattle.hx_session.specs.Seen.{chosen_seen, conn_seen}
 use Rattle.hx_session.specs.Stages.{StageNow, Reading, Choosing, Exchanging, Answering, Left, StandsSo, stage_now}
 use Rattle.hx_session.specs.Telling.{CameTells, TellsNone}
 
@@ -160,6 +161,7 @@ pub record Goes {X : Type 0} (d : DeskNow) (s : StageNow) (seats : List History)
   pub placed : CamePlaced d' came seats'
   pub keeps : KeepsPlace d d' seats seats' net net'
   pub touches : PartTouches d s seats net d' came seats' net'
+  pub picks : Picks (conn_seen s) (chosen_seen s) seats came seats'
   pub routed : (back : Back) → IsRoutedTo back s → CameRouted back came
   pub told : CameTells d s d' came
 
@@ -169,6 +171,7 @@ pub record ComesTo (d : DeskNow) (s : StageNow) (seats : List History) (net : Ne
   pub placed : IsPlaced d' s' seats'
   pub keeps : KeepsPlace d d' seats seats' net net'
   pub touches : StageTouches d s seats net d' s' seats' net'
+  pub picks : PicksTo (conn_seen s) (chosen_seen s) seats s' seats'
   pub routed : (back : Back) → IsRoutedTo back s → IsRoutedTo back s'
   pub told : TellsNone d d'
 

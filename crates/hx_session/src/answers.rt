@@ -17,6 +17,7 @@ ghost use Rattle.hx_session.specs.Carried.{IsCarried};
 ghost use Rattle.hx_session.specs.Over.{IsOver, IsTold, closing_of};
 ghost use Rattle.hx_session.specs.Finishing.{MayDo, DoesAtEnd, IsAnswerGiven, WasOver, EndsAnswer, RestsTo};
 ghost use Rattle.hx_session.specs.Passing.{PassesBody, BeginsBody};
+ghost use Rattle.hx_session.specs.Picking.{Picks};
 ghost use Rattle.hx_session.specs.Seen.{conn_seen};
 ghost use Rattle.hx_session.specs.Stages.{StageNow, Reading, Exchanging};
 ghost use Rattle.hx_connecting.specs.Ways.{ExchangeStays, RestWay};
@@ -328,6 +329,7 @@ fn goes_on<L: Link>(exchange: Exchange<L>, waits: Waiting, moved: bool) -> Came<
     ensures conn { came_conn result ≡ conn_seen (Exchanging (exchange_now exchange)) }
     ensures none { came_served result ≡ None }
     ensures routed { (back : Back) → IsRoutedTo back (Exchanging (exchange_now exchange)) → CameRouted back result }
+    ensures picks { (hs : List History) → Picks (conn_seen (Exchanging (exchange_now exchange))) None hs result hs }
     ensures told { (d0 d : DeskNow) (s0 : StageNow) → IsStillTold d0 s0 d (Exchanging (exchange_now exchange))
         → CameTells d0 s0 d result }
 {
@@ -489,6 +491,7 @@ fn after_pass<L: Link>(
     ensures rests { RestsSo result held served }
     ensures keeps { KeepsDesk (desk_now L.state desk.old) (desk_now L.state desk.new) }
     ensures routed { (back : Back) → IsRoutedTo back (Reading held) → CameRouted back result }
+    ensures picks { (e : ExchangeNow) (olds news : List History) → Picks (conn_seen (Exchanging e)) None olds result news }
     ensures told { (d : DeskNow) (e : ExchangeNow) → closing ≡ closing_of e.answer
         → GivesPassed d (desk_now L.state desk.old) e served → ((why : Cause) → IsTold d.client e.busy.link why served)
         → CameTells d (Exchanging e) (desk_now L.state desk.new) result }

@@ -1,6 +1,7 @@
 //! The parts of a step, in their order.
 
-ghost use Rattle.std.specs.Prelude.{◌≡◌, ◌↔◌, ◌<◌, ◌≤◌, IsTrue, List, length, map, false, None};
+ghost use Rattle.std.specs.Prelude.{◌≡◌, ◌↔◌, ◌<◌, ◌≤◌, IsTrue, List, Option, length, map, false, None};
+ghost use Rattle.hx_base.specs.declared.numbers.ServerNo.{ServerNo};
 ghost use Rattle.hx_config.specs.declared.parts.Back.{Back};
 ghost use Rattle.hx_config.specs.Limits.{all_servers};
 ghost use Rattle.hx_link.specs.Nets.{NetState};
@@ -9,11 +10,14 @@ ghost use Rattle.hx_connecting.specs.Around.{abouts};
 ghost use Rattle.hx_connecting.specs.Choice.{HaveSeats};
 ghost use Rattle.hx_connecting.specs.Journals.{room_of};
 ghost use Rattle.hx_connecting.specs.Rooms.{RoomsStay};
+ghost use Rattle.hx_connecting.specs.Sessions.{Holding};
 ghost use Rattle.hx_session.specs.Desks.{DeskNow, desk_now};
 ghost use Rattle.hx_session.specs.Exchanged.{ExchangeNow, exchange_now};
 ghost use Rattle.hx_session.specs.Ending.{HasOwnText};
 ghost use Rattle.hx_session.specs.declared.moves.Move.TheVariants.{Failed};
 ghost use Rattle.hx_session.specs.Moves.{with_client};
+ghost use Rattle.hx_session.specs.Picking.{Picks, PicksTo, PicksSo, PicksAll};
+ghost use Rattle.hx_session.specs.Seen.{conn_seen, chosen_seen};
 ghost use Rattle.hx_session.specs.Stages.{StageNow, Left as Gone, Reading, Exchanging, StandsSo, IsBetween, stage_now, stage_of_answering, stage_of_choosing};
 ghost use Rattle.hx_session.specs.Standing.{IsCounted, IsPlaced, CamePlaced, IsRoutedTo, CameRouted, KeepsPlace, KeepsOver, Goes, IsDone, IsGone, IsLeaving, IsSet};
 ghost use Rattle.hx_session.specs.Still.{WantsClient};
@@ -234,6 +238,8 @@ fn move_to_client<L: Link, S: Seat<Rested<L>>, N: Net<L = L>>(
     ensures touches { TouchesOn (desk_now L.state desk.old) came (map S.history seats.old) (N.state net.old)
         (desk_now L.state desk.new) result (map S.history seats.new) (N.state net.new) }
     ensures routed { (back : Back) → CameRouted back came → CameRouted back result }
+    ensures picks { (c : Option Holding) (v : Option ServerNo) (hs : List History) → Picks c v hs came (map S.history seats.old)
+        → Picks c v hs result (map S.history seats.new) }
     ensures told { (d0 : DeskNow) (s0 : StageNow) → CameTells d0 s0 (desk_now L.state desk.old) came
         → CameTells d0 s0 (desk_now L.state desk.new) result }
 {
@@ -311,6 +317,8 @@ fn move_to_server<L: Link, S: Seat<Rested<L>>, N: Net<L = L>>(
     ensures touches { TouchesOn (desk_now L.state desk.old) came (map S.history seats.old) (N.state net.old)
         (desk_now L.state desk.new) result (map S.history seats.new) (N.state net.new) }
     ensures routed { (back : Back) → CameRouted back came → CameRouted back result }
+    ensures picks { (c : Option Holding) (v : Option ServerNo) (hs : List History) → Picks c v hs came (map S.history seats.old)
+        → Picks c v hs result (map S.history seats.new) }
     ensures told { (d0 : DeskNow) (s0 : StageNow) → CameTells d0 s0 (desk_now L.state desk.old) came
         → CameTells d0 s0 (desk_now L.state desk.new) result }
 {
@@ -339,6 +347,9 @@ fn take_turn<L: Link, S: Seat<Rested<L>>>(
     ensures touches { (d : DeskNow) (net : NetState) → TouchesOn d came (map S.history seats.old) net d result (map S.history seats.new) net }
     ensures routed { CameRouted back.now came → CameRouted back.now result }
     ensures turn { turn.new < length back.now.servers }
+    ensures picks { (d : DeskNow) (s0 : StageNow) (hs : List History) → CamePlaced d came (map S.history seats.old)
+        → Picks (conn_seen s0) (chosen_seen s0) hs came (map S.history seats.old)
+        → PicksSo back.now.servers turn.old turn.new s0 hs result (map S.history seats.new) }
     ensures told { (d0 d : DeskNow) (s0 : StageNow) → CameTells d0 s0 d came → CameTells d0 s0 d result }
 {
     let Came::On(stage, waits) = came else {
@@ -415,6 +426,8 @@ fn do_phase<L: Link, S: Seat<Rested<L>>, N: Net<L = L>>(
     ensures touches { TouchesOn (desk_now L.state desk.old) came (map S.history seats.old) (N.state net.old)
         (desk_now L.state desk.new) result (map S.history seats.new) (N.state net.new) }
     ensures routed { (back : Back) → CameRouted back came → CameRouted back result }
+    ensures picks { (c : Option Holding) (v : Option ServerNo) (hs : List History) → Picks c v hs came (map S.history seats.old)
+        → Picks c v hs result (map S.history seats.new) }
     ensures told { (d0 : DeskNow) (s0 : StageNow) → CameTells d0 s0 (desk_now L.state desk.old) came
         → CameTells d0 s0 (desk_now L.state desk.new) result }
 {
@@ -480,6 +493,8 @@ fn move_from_client<L: Link, S: Seat<Rested<L>>, N: Net<L = L>>(
     ensures touches { TouchesOn (desk_now L.state desk.old) came (map S.history seats.old) (N.state net.old)
         (desk_now L.state desk.new) result (map S.history seats.new) (N.state net.new) }
     ensures routed { (back : Back) → CameRouted back came → CameRouted back result }
+    ensures picks { (c : Option Holding) (v : Option ServerNo) (hs : List History) → Picks c v hs came (map S.history seats.old)
+        → Picks c v hs result (map S.history seats.new) }
     ensures told { (d0 : DeskNow) (s0 : StageNow) → CameTells d0 s0 (desk_now L.state desk.old) came
         → CameTells d0 s0 (desk_now L.state desk.new) result }
 {
@@ -525,6 +540,8 @@ fn move_from_server<L: Link, S: Seat<Rested<L>>, N: Net<L = L>>(
     ensures touches { TouchesOn (desk_now L.state desk.old) came (map S.history seats.old) (N.state net.old)
         (desk_now L.state desk.new) result (map S.history seats.new) (N.state net.new) }
     ensures routed { (back : Back) → CameRouted back came → CameRouted back result }
+    ensures picks { (c : Option Holding) (v : Option ServerNo) (hs : List History) → Picks c v hs came (map S.history seats.old)
+        → Picks c v hs result (map S.history seats.new) }
     ensures told { (d0 : DeskNow) (s0 : StageNow) → CameTells d0 s0 (desk_now L.state desk.old) came
         → CameTells d0 s0 (desk_now L.state desk.new) result }
 {
@@ -573,6 +590,7 @@ fn give_left<L: Link, S: Seat<Rested<L>>, N: Net<L = L>>(
     ensures done { IsDone (desk_now L.state desk.new) (stage_now result.stage) (map S.history seats.new) result.waits result.left }
     ensures keeps { KeepsOver (desk_now L.state desk.old) (desk_now L.state desk.new) (map S.history seats.old) (map S.history seats.new)
         (N.state net.old) (N.state net.new) }
+    ensures seats { ending.held ≡ None → map S.history seats.new ≡ map S.history seats.old }
     ensures told { (d0 : DeskNow) (s0 : StageNow) → TellsEnd s0 d0 (desk_now L.state desk.old) ending.served ending.cause
         → DoneTells d0 s0 (desk_now L.state desk.new) result.served result.left }
 {
@@ -607,6 +625,8 @@ fn conclude<L: Link, S: Seat<Rested<L>>, N: Net<L = L>>(
     ensures keeps { KeepsOver (desk_now L.state desk.old) (desk_now L.state desk.new) (map S.history seats.old) (map S.history seats.new)
         (N.state net.old) (N.state net.new) }
     ensures routed { (back : Back) → CameRouted back came → IsRoutedTo back (stage_now result.stage) }
+    ensures picks { (c : Option Holding) (v : Option ServerNo) (hs : List History) → Picks c v hs came (map S.history seats.old)
+        → PicksTo c v hs (stage_now result.stage) (map S.history seats.new) }
     ensures told { (d0 : DeskNow) (s0 : StageNow) → CameTells d0 s0 (desk_now L.state desk.old) came
         → DoneTells d0 s0 (desk_now L.state desk.new) result.served result.left }
 {
@@ -654,6 +674,8 @@ pub(crate) fn advance<L: Link, S: Seat<Rested<L>>, N: Net<L = L>>(
         (N.state net.old) (N.state net.new) }
     ensures routed { IsRoutedTo scene.entry.back.now (stage_now result.stage) }
     ensures turn { turn.new < length scene.entry.back.now.servers }
+    ensures picks { PicksAll scene.entry.back.now.servers turn.old turn.new (stage_now stage) (map S.history seats.old)
+        (stage_now result.stage) (map S.history seats.new) }
     ensures told { DoneTells (desk_now L.state desk.old) (stage_now stage) (desk_now L.state desk.new) result.served result.left }
 {
     let came = meet_deadline(desk, stage, seats, net, scene);

@@ -46,6 +46,7 @@ returns g c =
           at = w.at;
           way = rests_came c.after_pass.result d0.worker d0.session (Some (OnConn c.args.exchange.busy)) news w.at.added net0 net1 w.touch c.pass-held.result.1 c.pass-held.result.0 c.after_pass.ensures.rests w.way;
         });
+        picks = c.after_pass.ensures.picks (exchange_now c.args.exchange) olds news;
         routed = λ back r. c.after_pass.ensures.routed back (rest_routed back c.args.exchange.busy.server c.pass-held.result.1 r.to_conn passed.server);
         told = c.after_pass.ensures.told d0 (exchange_now c.args.exchange) c.is_closing-closing.ensures passed.gives passed.told;
       };

@@ -20,7 +20,7 @@ returns-in-PassAsk g c =
     let net : NetState = g.N.Net.state c.args.net.now in
     let p = c.pass_ask.ensures in
     record {
-      goes = went_on d d2 e e2 seats net c.goes_on.result c.requires.placed p.keeps p.conn p.carried p.good (c.goes_on.ensures.placed d2 seats) c.goes_on.ensures.routed (c.goes_on.ensures.told d d2 (Exchanging e) p.told) c.goes_on.ensures.conn c.goes_on.ensures.none p.stays p.told;
+      goes = went_on d d2 e e2 seats net c.goes_on.result c.requires.placed p.keeps p.conn p.carried p.good (c.goes_on.ensures.placed d2 seats) c.goes_on.ensures.routed (c.goes_on.ensures.told d d2 (Exchanging e) p.told) c.goes_on.ensures.conn c.goes_on.ensures.none p.stays p.told (c.goes_on.ensures.picks seats);
       rooms = rooms_none g.S.HasHistory.history (room_of g.S.HasHistory.kept_from g.S.HasHistory.spare) c.args.seats.now;
     }
 
@@ -34,7 +34,7 @@ returns-in-PassAnswer g c =
     let net : NetState = g.N.Net.state c.args.net.now in
     let p = c.pass_answer.ensures in
     record {
-      goes = went_on d d2 e e2 seats net c.goes_on-in-PassAnswer.result c.requires.placed p.keeps p.conn p.carried p.good (c.goes_on-in-PassAnswer.ensures.placed d2 seats) c.goes_on-in-PassAnswer.ensures.routed (c.goes_on-in-PassAnswer.ensures.told d d2 (Exchanging e) p.told) c.goes_on-in-PassAnswer.ensures.conn c.goes_on-in-PassAnswer.ensures.none p.stays p.told;
+      goes = went_on d d2 e e2 seats net c.goes_on-in-PassAnswer.result c.requires.placed p.keeps p.conn p.carried p.good (c.goes_on-in-PassAnswer.ensures.placed d2 seats) c.goes_on-in-PassAnswer.ensures.routed (c.goes_on-in-PassAnswer.ensures.told d d2 (Exchanging e) p.told) c.goes_on-in-PassAnswer.ensures.conn c.goes_on-in-PassAnswer.ensures.none p.stays p.told (c.goes_on-in-PassAnswer.ensures.picks seats);
       rooms = rooms_none g.S.HasHistory.history (room_of g.S.HasHistory.kept_from g.S.HasHistory.spare) c.args.seats.now;
     }
 
@@ -48,4 +48,4 @@ returns-in-Nothing-clause-goes g c =
     let seats : List History = map g.S.HasHistory.history c.args.seats.now in
     let net : NetState = g.N.Net.state c.args.net.now in
     let k = c.goes_on-in-Nothing.ensures in
-    still_on d e seats net c.goes_on-in-Nothing.result c.requires.placed k.conn k.none (k.placed d seats) k.routed (k.told d d (Exchanging e) (still_same d (Exchanging e)))
+    still_on d e seats net c.goes_on-in-Nothing.result c.requires.placed k.conn k.none (k.placed d seats) k.routed (k.told d d (Exchanging e) (still_same d (Exchanging e))) (k.picks seats)

@@ -25,7 +25,7 @@ returns-in-Interim g c =
     let keeps : KeepsAsk d d2 = subst (λ (p : PipeNow). KeepsAsk (record d { down = p }) d2) c.look_down.ensures.same s.keeps in
     let still : IsStillTold d (Exchanging e) d2 (Exchanging e2) = subst (λ (p : PipeNow). IsStillTold (record d { down = p }) (Exchanging e) d2 (Exchanging e2)) c.look_down.ensures.same s.told in
     record {
-      goes = went_on d d2 e e2 seats net c.goes_on.result c.requires.placed keeps s.conn s.carried s.good (c.goes_on.ensures.placed d2 seats) c.goes_on.ensures.routed (c.goes_on.ensures.told d d2 (Exchanging e) still) c.goes_on.ensures.conn c.goes_on.ensures.none s.stays still;
+      goes = went_on d d2 e e2 seats net c.goes_on.result c.requires.placed keeps s.conn s.carried s.good (c.goes_on.ensures.placed d2 seats) c.goes_on.ensures.routed (c.goes_on.ensures.told d d2 (Exchanging e) still) c.goes_on.ensures.conn c.goes_on.ensures.none s.stays still (c.goes_on.ensures.picks seats);
       rooms = rooms_none g.S.HasHistory.history (room_of g.S.HasHistory.kept_from g.S.HasHistory.spare) c.args.seats.now;
     }
 
@@ -41,7 +41,7 @@ returns-in-Final g c =
     let keeps : KeepsAsk d d2 = subst (λ (p : PipeNow). KeepsAsk (record d { down = p }) d2) c.look_down.ensures.same s.keeps in
     let still : IsStillTold d (Exchanging e) d2 (Exchanging e2) = subst (λ (p : PipeNow). IsStillTold (record d { down = p }) (Exchanging e) d2 (Exchanging e2)) c.look_down.ensures.same s.told in
     record {
-      goes = went_on d d2 e e2 seats net c.goes_on-in-Final.result c.requires.placed keeps s.conn s.carried s.good (c.goes_on-in-Final.ensures.placed d2 seats) c.goes_on-in-Final.ensures.routed (c.goes_on-in-Final.ensures.told d d2 (Exchanging e) still) c.goes_on-in-Final.ensures.conn c.goes_on-in-Final.ensures.none s.stays still;
+      goes = went_on d d2 e e2 seats net c.goes_on-in-Final.result c.requires.placed keeps s.conn s.carried s.good (c.goes_on-in-Final.ensures.placed d2 seats) c.goes_on-in-Final.ensures.routed (c.goes_on-in-Final.ensures.told d d2 (Exchanging e) still) c.goes_on-in-Final.ensures.conn c.goes_on-in-Final.ensures.none s.stays still (c.goes_on-in-Final.ensures.picks seats);
       rooms = rooms_none g.S.HasHistory.history (room_of g.S.HasHistory.kept_from g.S.HasHistory.spare) c.args.seats.now;
     }
 
@@ -56,4 +56,4 @@ returns-else-exchange-clause-goes g c =
     let net : NetState = g.N.Net.state c.args.net.now in
     let k = c.goes_on-else-exchange.ensures in
     let came = c.goes_on-else-exchange.result in
-    subst (λ (p : PipeNow). Goes d (Exchanging e) seats net (record d { down = p }) came seats net) (sym c.look_down.ensures.same) (still_on d e seats net came c.requires.placed k.conn k.none (k.placed d seats) k.routed (k.told d d (Exchanging e) (still_same d (Exchanging e))))
+    subst (λ (p : PipeNow). Goes d (Exchanging e) seats net (record d { down = p }) came seats net) (sym c.look_down.ensures.same) (still_on d e seats net came c.requires.placed k.conn k.none (k.placed d seats) k.routed (k.told d d (Exchanging e) (still_same d (Exchanging e))) (k.picks seats))

@@ -12,6 +12,8 @@ use Rattle.hx_session.proofs.RestWays.{held_to}
 use Rattle.hx_session.specs.Parting.{first_of}
 use Rattle.hx_session.proofs.PartingLemmas.{first_is}
 use Rattle.hx_session.specs.Desks.{desk_now, DeskNow}
+use Rattle.hx_session.specs.Stages.{choosing_now}
+use Rattle.hx_session.proofs.PickLemmas.{to_connected}
 use Rattle.hx_session.proofs.asks.connect_to.Goals as goal
 
 pub returns : goal.returns
@@ -33,6 +35,7 @@ returns g c =
         touches = inr (subst (λ (o : Option Holding). SomeWay d.worker d.session (first_of d) (resting c.args.choosing.held) o olds news net net2 None) (sym a.conn)
             (connects_way d.worker d.session (first_of d) c.args.to.0 olds news c.args.to.2.0 c.args.choosing.asked.head.method net net2 c.args.choosing.held c.connect-connected.result set.around
             (held_to c.args.choosing.held c.args.choosing.server c.args.to.0 c.requires.placed.good c.requires.chosen) connects));
+        picks = to_connected d.worker d.session (first_of d) olds news _ _ _ _ c.connect-connected.result (choosing_now c.args.choosing) c.args.to.0 _ c.requires.chosen c.requires.placed.good set.around connects a.picks;
         routed = λ back r. a.routed back news (subst (λ (o : Option ServerNo). IfSome o (λ v. Contains (servers_of back) v)) c.requires.chosen r.to_chosen) k.own;
         told = a.told;
       };

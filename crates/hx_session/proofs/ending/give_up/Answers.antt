@@ -1,4 +1,4 @@
-use Rattle.std.proofs.Common.{List, map, sym, subst, inr, arith, Some, None}
+use Rattle.std.proofs.Common.{List, map, sym, ap, subst, inr, arith, Some, None}
 use Rattle.hx_pool.specs.SeatView.{History}
 use Rattle.hx_connecting.specs.Sessions.{Exchanging as OnConn}
 use Rattle.hx_connecting.specs.Ways.{WayFor}
@@ -10,6 +10,8 @@ use Rattle.hx_session.specs.Stages.{StageNow}
 use Rattle.hx_session.specs.Standing.{IsPlaced, IsRoutedTo}
 use Rattle.hx_session.proofs.StandingLemmas.{answers_keep, answers_set, gave_none}
 use Rattle.hx_session.proofs.TellLemmas.{answers_none}
+use Rattle.hx_session.specs.Seen.{chosen_seen}
+use Rattle.hx_session.proofs.PickLemmas.{to_unchosen}
 use Rattle.hx_session.proofs.ending.give_up.Goals as goal
 
 pub returns : goal.returns
@@ -38,6 +40,7 @@ returns g c =
           at = w.at;
           way = subst (λ (s : StageNow). WayFor d.worker d.session (Some (OnConn b)) (conn_seen s) news w.at.added net net2 w.touch None) (sym c.answer-stage.ensures.stage) w.way;
         });
+        picks = to_unchosen b (map f c.args.seats.now) news _ (ap chosen_seen c.answer-stage.ensures.stage);
         routed = λ back r. subst (λ (s : StageNow). IsRoutedTo back s) (sym c.answer-stage.ensures.stage) (record { to_conn = tt; to_chosen = tt });
         told = answers_none d d2 c.args.own.status a;
       };

@@ -4,6 +4,7 @@ use Rattle.hx_session.specs.Stages.{own_stage}
 use Rattle.hx_session.proofs.StandingLemmas.{goes_ends, own_leaves, own_keeps, place_in}
 use Rattle.hx_session.proofs.TellLemmas.{own_told}
 use Rattle.hx_session.proofs.StaysLemmas.{own_given}
+use Rattle.hx_session.proofs.PickLemmas.{held_none}
 use Rattle.hx_session.proofs.ending.leave_answering.Goals as goal
 
 pub tell_own-served-requires : goal.tell_own-served-requires
@@ -23,5 +24,6 @@ returns g c = record {
       goes_ends d d2 (own_stage status held) seats seats net net c.leave_after.result _ c.leave_after.ensures
       (place_in d d2 seats net (own_keeps d d1 d2 c.tell_own-served.ensures.next c.drop_waiting.ensures))
       (own_leaves d d1 d2 status held seats c.tell_own-served.ensures.next c.drop_waiting.ensures p) (inl (refl, refl, refl, tt, own_given d status d.taken held c.tell_own-served.result c.tell_own-served.ensures.served))
-      (own_told d d1 d2 status held c.tell_own-served.result c.args.left p.set.stands c.requires.cause c.tell_own-served.ensures.served c.tell_own-served.ensures.next c.drop_waiting.ensures);
+      (own_told d d1 d2 status held c.tell_own-served.result c.args.left p.set.stands c.requires.cause c.tell_own-served.ensures.served c.tell_own-served.ensures.next c.drop_waiting.ensures)
+      (λ none. (held_none held none, refl));
 }

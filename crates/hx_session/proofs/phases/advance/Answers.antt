@@ -14,8 +14,11 @@ use Rattle.hx_connecting.specs.Journals.{room_of}
 use Rattle.hx_connecting.proofs.AddingLemmas.{holds_stand}
 use Rattle.hx_connecting.proofs.RoomLemmas.{rooms_both}
 use Rattle.hx_session.specs.Stages.{StageNow, stage_now}
-use Rattle.hx_session.specs.Seen.{conn_seen}
+use Rattle.hx_session.specs.Seen.{conn_seen, chosen_seen}
 use Rattle.hx_session.proofs.PartingLemmas.{parted}
+use Rattle.hx_session.specs.Picking.{or_chose}
+use Rattle.std.proofs.Common.{Option}
+use Rattle.hx_base.specs.declared.numbers.ServerNo.{ServerNo}
 use Rattle.hx_session.proofs.phases.advance.Goals as goal
 
 pub do_phase-came-requires-clause-routed : goal.do_phase-came-requires-clause-routed
@@ -153,3 +156,21 @@ returns-clause-rooms g c =
     rooms_both f r a s1 e8 c.meet_deadline-came.ensures.rooms (rooms_both f r s1 s2 e8 c.move_to_client-came.ensures.rooms (rooms_both f r s2 s3 e8 c.move_to_server-came.ensures.rooms
     (rooms_both f r s3 s4 e8 c.take_turn-came.ensures.rooms (rooms_both f r s4 s5 e8 c.do_phase-came.ensures.rooms (rooms_both f r s5 s6 e8 c.move_from_client-came.ensures.rooms
     (rooms_both f r s6 s7 e8 c.move_from_server-came.ensures.rooms c.conclude.ensures.rooms))))))
+
+pub returns-clause-picks : goal.returns-clause-picks
+returns-clause-picks g c =
+    let f = g.S.HasHistory.history in
+    let s : StageNow = stage_now c.args.stage in
+    let k = conn_seen s in
+    let v = chosen_seen s in
+    let hs : List History = map f c.args.seats.now in
+    let so = c.take_turn-came.ensures.picks (desk_now g.L.Link.state c.move_to_server-came.new.desk) s hs c.move_to_server-came.ensures.placed
+    (c.move_to_server-came.ensures.picks k v hs (c.move_to_client-came.ensures.picks k v hs c.meet_deadline-came.ensures.goes.picks)) in
+    let w : Option ServerNo = or_chose v so.chose in
+    record {
+      fits = c.requires.turn;
+      chose = so.chose;
+      asked = so.asked;
+      takes = so.takes;
+      picks = c.conclude.ensures.picks k w so.asked (c.move_from_server-came.ensures.picks k w so.asked (c.move_from_client-came.ensures.picks k w so.asked (c.do_phase-came.ensures.picks k w so.asked so.picks)));
+    }

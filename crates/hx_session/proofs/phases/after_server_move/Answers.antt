@@ -14,6 +14,8 @@ use Rattle.hx_connecting.specs.Journals.{room_of}
 use Rattle.hx_connecting.proofs.RoomLemmas.{rooms_none}
 use Rattle.hx_session.proofs.PartLemmas.{still_keeps}
 use Rattle.hx_session.proofs.StaysLemmas.{keeps_any}
+use Rattle.hx_session.specs.Seen.{conn_seen}
+use Rattle.hx_session.proofs.PickLemmas.{kind_self}
 use Rattle.hx_session.proofs.phases.after_server_move.Goals as goal
 
 idle_good : (m : Move) → m ≡ Idle → m ≡ Failed → ⊥
@@ -41,6 +43,7 @@ returns-in-Idle-clause-goes g c =
       placed = record { set = c.requires.set; good = c.requires.good (idle_good c.args.call.0 c.in-Idle.is) };
       keeps = place_in d d seats net (desk_none d);
       touches = inl (refl, refl, refl, refl, tt);
+      picks = (refl, kind_self (conn_seen (Exchanging (exchange_now c.args.exchange))), λ e. refl);
       routed = λ back r. r;
       told = still_same d (Exchanging (exchange_now c.args.exchange));
     }
@@ -54,6 +57,7 @@ returns-in-Waits-clause-goes g c =
       placed = record { set = c.requires.set; good = c.requires.good (waits_good c.args.call.0 c.in-Waits.is) };
       keeps = place_in d d seats net (desk_none d);
       touches = inl (refl, refl, refl, refl, tt);
+      picks = (refl, kind_self (conn_seen (Exchanging (exchange_now c.args.exchange))), λ e. refl);
       routed = λ back r. r;
       told = still_same d (Exchanging (exchange_now c.args.exchange));
     }

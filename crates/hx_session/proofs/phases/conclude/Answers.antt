@@ -10,6 +10,10 @@ use Rattle.hx_session.specs.declared.stage.Came.{Came}
 use Rattle.hx_session.specs.Desks.{desk_now, DeskNow}
 use Rattle.hx_session.specs.Parting.{Parted}
 use Rattle.hx_session.proofs.PartingLemmas.{moves_then, stands_then}
+use Rattle.hx_session.specs.Picking.{Picks}
+use Rattle.hx_session.specs.Stages.{stage_now}
+use Rattle.std.proofs.Common.{◌∙◌}
+use Rattle.hx_session.proofs.PickLemmas.{done_on, done_left}
 use Rattle.hx_session.proofs.phases.conclude.Goals as goal
 
 pub returns-in-Ends-clause-routed : goal.returns-in-Ends-clause-routed
@@ -41,3 +45,19 @@ returns-in-On-clause-rooms g c = rooms_none g.S.HasHistory.history (room_of g.S.
 
 pub returns-in-Moved-clause-rooms : goal.returns-in-Moved-clause-rooms
 returns-in-Moved-clause-rooms g c = rooms_none g.S.HasHistory.history (room_of g.S.HasHistory.kept_from g.S.HasHistory.spare) c.args.seats.now
+
+pub returns-in-On-clause-picks : goal.returns-in-On-clause-picks
+returns-in-On-clause-picks g c = λ k v hs p.
+    let olds : List History = map g.S.HasHistory.history c.args.seats.now in
+    done_on k v hs olds c.in-On.stage c.in-On.waits (subst (λ (x : Came g.row.L.Denot). Picks k v hs x olds) c.in-On.is p)
+
+pub returns-in-Moved-clause-picks : goal.returns-in-Moved-clause-picks
+returns-in-Moved-clause-picks g c = λ k v hs p. subst (λ (x : Came g.row.L.Denot). Picks k v hs x (map g.S.HasHistory.history c.args.seats.now)) c.in-Moved.is p
+
+pub returns-in-Ends-clause-picks : goal.returns-in-Ends-clause-picks
+returns-in-Ends-clause-picks g c = λ k v hs p.
+    let f = g.S.HasHistory.history in
+    let olds : List History = map f c.args.seats.now in
+    let news : List History = map f c.give_left.new.seats in
+    let ends = subst (λ (x : Came g.row.L.Denot). Picks k v hs x olds) c.in-Ends.is p in
+    done_left k v hs news (stage_now c.give_left.result.stage) c.give_left.ensures.stage (λ none. let q = ends none in c.give_left.ensures.seats q.0 ∙ q.1)

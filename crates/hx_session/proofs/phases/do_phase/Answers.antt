@@ -10,6 +10,8 @@ use Rattle.hx_session.specs.Parting.{Parted}
 use Rattle.hx_session.proofs.PartingLemmas.{parts_then}
 use Rattle.hx_connecting.specs.Journals.{room_of}
 use Rattle.hx_connecting.proofs.RoomLemmas.{rooms_none}
+use Rattle.hx_session.specs.Picking.{Picks}
+use Rattle.hx_session.proofs.PickLemmas.{picks_then}
 use Rattle.hx_session.proofs.phases.do_phase.Goals as goal
 
 pub returns-clause-told : goal.returns-clause-told
@@ -32,3 +34,10 @@ returns-clause-touches g c = λ d0 s0 hs net0 t n p.
 
 pub returns-in_default-clause-rooms : goal.returns-in_default-clause-rooms
 returns-in_default-clause-rooms g c = rooms_none g.S.HasHistory.history (room_of g.S.HasHistory.kept_from g.S.HasHistory.spare) c.args.seats.now
+
+pub returns-clause-picks : goal.returns-clause-picks
+returns-clause-picks g c = λ k v hs p.
+    let f = g.S.HasHistory.history in
+    let olds : List History = map f c.args.seats.now in
+    let news : List History = map f c.do_stage.new.seats in
+    picks_then k v hs olds news c.in-On.stage c.in-On.waits c.do_stage.result (subst (λ (x : Came g.row.L.Denot). Picks k v hs x olds) c.in-On.is p) c.do_stage.ensures.goes.picks

@@ -6,6 +6,7 @@ use Rattle.hx_session.specs.Telling.{DoneTells}
 use Rattle.hx_session.proofs.TellLemmas.{end_detached}
 use Rattle.hx_pool.specs.SeatView.{History}
 use Rattle.hx_session.proofs.PartingLemmas.{leaves_then}
+use Rattle.hx_session.proofs.PickLemmas.{closes_none}
 use Rattle.hx_session.proofs.phases.give_left.Goals as goal
 
 pub returns-clause-told : goal.returns-clause-told
@@ -25,3 +26,6 @@ returns-clause-touches g c = λ d0 s0 hs net0 t n p.
     let olds : List History = map f c.args.seats.now in
     let news : List History = map f c.let_go.new.seats in
     leaves_then d0 d s0 c.args.ending hs olds news net0 _ _ _ _ t n c.requires.leaving.around c.let_go.ensures.closes p
+
+pub returns-clause-seats : goal.returns-clause-seats
+returns-clause-seats g c = λ none. closes_none _ _ _ c.args.ending.held _ _ none c.let_go.ensures.closes.closes

@@ -9,6 +9,8 @@ use Rattle.hx_session.specs.declared.moves.Move.{Move}
 use Rattle.hx_session.proofs.TellLemmas.{DeskTells, gives_told}
 use Rattle.hx_session.proofs.PartLemmas.{gave_placed, goes_from_desk}
 use Rattle.hx_session.proofs.ReadLemmas.{gives_keep}
+use Rattle.hx_session.specs.Seen.{conn_seen}
+use Rattle.hx_session.proofs.PickLemmas.{to_same, kind_self}
 use Rattle.hx_session.proofs.phases.give_some.Goals as goal
 
 pub returns-in-Bytes : goal.returns-in-Bytes
@@ -23,6 +25,7 @@ returns-in-Bytes g c =
         placed = gave_placed d d2 (stage_now c.args.stage) c.args.at.now.0 m seats c.give.ensures.desk c.give.ensures.gives c.requires.placed;
         keeps = place_in d d2 seats net (gives_keep d d2 c.args.at.now.0 m c.give.ensures.gives).desk;
         touches = inl (refl, refl, refl, tt, tt);
+        picks = to_same seats (stage_now c.args.stage);
         routed = λ back r. r;
         told = subst (λ (x : Move). DeskTells x d (stage_now c.args.stage) d2) c.in-Bytes.is (gives_told d d2 (stage_now c.args.stage) c.args.at.now.0 c.give.result c.give.ensures.gives);
       };
@@ -41,6 +44,7 @@ returns-in-Ended g c =
         placed = gave_placed d d2 (stage_now c.args.stage) c.args.at.now.0 m seats c.give.ensures.desk c.give.ensures.gives c.requires.placed;
         keeps = place_in d d2 seats net (gives_keep d d2 c.args.at.now.0 m c.give.ensures.gives).desk;
         touches = inl (refl, refl, refl, tt, tt);
+        picks = to_same seats (stage_now c.args.stage);
         routed = λ back r. r;
         told = subst (λ (x : Move). DeskTells x d (stage_now c.args.stage) d2) c.in-Ended.is (gives_told d d2 (stage_now c.args.stage) c.args.at.now.0 c.give.result c.give.ensures.gives);
       };
@@ -59,6 +63,7 @@ returns-in-Idle g c =
         placed = gave_placed d d2 (stage_now c.args.stage) c.args.at.now.0 m seats c.give.ensures.desk c.give.ensures.gives c.requires.placed;
         keeps = place_in d d2 seats net (gives_keep d d2 c.args.at.now.0 m c.give.ensures.gives).desk;
         touches = inl (refl, refl, refl, (gives_keep d d2 c.args.at.now.0 m c.give.ensures.gives).number, tt);
+        picks = (refl, kind_self (conn_seen (stage_now c.args.stage)), λ e. refl);
         routed = λ back r. r;
         told = subst (λ (x : Move). DeskTells x d (stage_now c.args.stage) d2) c.in-Idle.is (gives_told d d2 (stage_now c.args.stage) c.args.at.now.0 c.give.result c.give.ensures.gives);
       };
@@ -77,6 +82,7 @@ returns-in-Waits g c =
         placed = gave_placed d d2 (stage_now c.args.stage) c.args.at.now.0 m seats c.give.ensures.desk c.give.ensures.gives c.requires.placed;
         keeps = place_in d d2 seats net (gives_keep d d2 c.args.at.now.0 m c.give.ensures.gives).desk;
         touches = inl (refl, refl, refl, (gives_keep d d2 c.args.at.now.0 m c.give.ensures.gives).number, tt);
+        picks = (refl, kind_self (conn_seen (stage_now c.args.stage)), λ e. refl);
         routed = λ back r. r;
         told = subst (λ (x : Move). DeskTells x d (stage_now c.args.stage) d2) c.in-Waits.is (gives_told d d2 (stage_now c.args.stage) c.args.at.now.0 c.give.result c.give.ensures.gives);
       };

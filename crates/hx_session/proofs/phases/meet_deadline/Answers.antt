@@ -9,6 +9,8 @@ use Rattle.hx_session.proofs.StandingLemmas.{desk_is, place_in}
 use Rattle.hx_session.proofs.TellLemmas.{still_same}
 use Rattle.hx_connecting.specs.Journals.{room_of}
 use Rattle.hx_connecting.proofs.RoomLemmas.{rooms_none}
+use Rattle.hx_session.specs.Seen.{conn_seen}
+use Rattle.hx_session.proofs.PickLemmas.{kind_self}
 use Rattle.hx_session.proofs.phases.meet_deadline.Goals as goal
 
 pub returns-in-None : goal.returns-in-None
@@ -24,6 +26,7 @@ returns-in-None g c =
         placed = subst (λ (x : DeskNow). IsPlaced x s seats) (sym same) c.requires.placed;
         keeps = place_in d d2 seats net (desk_is d d2 same);
         touches = inl (refl, refl, refl, ap (λ (x : DeskNow). x.number) same, tt);
+        picks = (refl, kind_self (conn_seen (stage_now c.args.stage)), λ e. refl);
         routed = λ back r. r;
         told = subst (λ (x : DeskNow). IsStillTold d s x s) (sym same) (still_same d s);
       };

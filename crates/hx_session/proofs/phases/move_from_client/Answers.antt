@@ -10,6 +10,8 @@ use Rattle.hx_session.specs.Parting.{Parted}
 use Rattle.hx_session.proofs.PartingLemmas.{parts_then}
 use Rattle.hx_connecting.specs.Journals.{room_of}
 use Rattle.hx_connecting.proofs.RoomLemmas.{rooms_none}
+use Rattle.hx_session.specs.Picking.{Picks}
+use Rattle.hx_session.proofs.PickLemmas.{picks_then}
 use Rattle.hx_session.proofs.phases.move_from_client.Goals as goal
 
 pub returns-clause-told : goal.returns-clause-told
@@ -35,3 +37,10 @@ returns-in_default-clause-rooms g c = rooms_none g.S.HasHistory.history (room_of
 
 pub returns-then-not-reads_client-clause-rooms : goal.returns-then-not-reads_client-clause-rooms
 returns-then-not-reads_client-clause-rooms g c = rooms_none g.S.HasHistory.history (room_of g.S.HasHistory.kept_from g.S.HasHistory.spare) c.args.seats.now
+
+pub returns-clause-picks : goal.returns-clause-picks
+returns-clause-picks g c = λ k v hs p.
+    let f = g.S.HasHistory.history in
+    let olds : List History = map f c.args.seats.now in
+    let news : List History = map f c.take_some.new.seats in
+    picks_then k v hs olds news c.in-On.stage c.in-On.waits c.take_some.result (subst (λ (x : Came g.row.L.Denot). Picks k v hs x olds) c.in-On.is p) c.take_some.ensures.goes.picks

@@ -15,6 +15,8 @@ use Rattle.hx_session.specs.declared.stage.Stage.TheVariants as is
 use Rattle.hx_session.specs.declared.stage.Came.TheVariants.{On}
 use Rattle.hx_connecting.specs.Journals.{room_of}
 use Rattle.hx_connecting.proofs.RoomLemmas.{rooms_none}
+use Rattle.hx_session.specs.Picking.{Picks}
+use Rattle.hx_session.proofs.PickLemmas.{picks_then}
 use Rattle.hx_session.proofs.phases.move_to_server.Goals as goal
 
 pub returns-clause-routed : goal.returns-clause-routed
@@ -48,3 +50,12 @@ returns-in_default-clause-rooms g c = rooms_none g.S.HasHistory.history (room_of
 
 pub returns-in_default-stage-clause-rooms : goal.returns-in_default-stage-clause-rooms
 returns-in_default-stage-clause-rooms g c = rooms_none g.S.HasHistory.history (room_of g.S.HasHistory.kept_from g.S.HasHistory.spare) c.args.seats.now
+
+pub returns-clause-picks : goal.returns-clause-picks
+returns-clause-picks g c = λ k v hs p.
+    let f = g.S.HasHistory.history in
+    let olds : List History = map f c.args.seats.now in
+    let news : List History = map f c.send_some.new.seats in
+    let on = subst (λ (x : Came g.row.L.Denot). Picks k v hs x olds) c.in-On.is p in
+    let there = subst (λ (x : Stage g.row.L.Denot). Picks k v hs (On x c.in-On.waits) olds) c.in-Exchanging.is on in
+    picks_then k v hs olds news (is.Exchanging c.in-Exchanging.exchange) c.in-On.waits c.send_some.result there c.send_some.ensures.goes.picks

@@ -9,6 +9,8 @@ use Rattle.hx_session.specs.declared.moves.Move.{Move}
 use Rattle.hx_session.proofs.TellLemmas.{DeskTells, reads_told}
 use Rattle.hx_session.proofs.PartLemmas.{took_placed, goes_from_desk}
 use Rattle.hx_session.proofs.ReadLemmas.{reads_keep}
+use Rattle.hx_session.specs.Seen.{conn_seen}
+use Rattle.hx_session.proofs.PickLemmas.{to_same, kind_self}
 use Rattle.hx_session.proofs.phases.take_some.Goals as goal
 
 pub returns-in-Bytes : goal.returns-in-Bytes
@@ -23,6 +25,7 @@ returns-in-Bytes g c =
         placed = took_placed d d2 (stage_now c.args.stage) c.args.at.now.0 m seats c.read_client.ensures.desk c.read_client.ensures.reads c.requires.wants c.requires.placed;
         keeps = place_in d d2 seats net (reads_keep d d2 c.args.at.now.0 m c.read_client.ensures.reads).desk;
         touches = inl (refl, refl, refl, tt, tt);
+        picks = to_same seats (stage_now c.args.stage);
         routed = λ back r. r;
         told = subst (λ (x : Move). DeskTells x d (stage_now c.args.stage) d2) c.in-Bytes.is (reads_told d d2 (stage_now c.args.stage) c.args.at.now.0 c.read_client.result c.read_client.ensures.reads);
       };
@@ -41,6 +44,7 @@ returns-in-Ended g c =
         placed = took_placed d d2 (stage_now c.args.stage) c.args.at.now.0 m seats c.read_client.ensures.desk c.read_client.ensures.reads c.requires.wants c.requires.placed;
         keeps = place_in d d2 seats net (reads_keep d d2 c.args.at.now.0 m c.read_client.ensures.reads).desk;
         touches = inl (refl, refl, refl, tt, tt);
+        picks = to_same seats (stage_now c.args.stage);
         routed = λ back r. r;
         told = subst (λ (x : Move). DeskTells x d (stage_now c.args.stage) d2) c.in-Ended.is (reads_told d d2 (stage_now c.args.stage) c.args.at.now.0 c.read_client.result c.read_client.ensures.reads);
       };
@@ -59,6 +63,7 @@ returns-in-Idle g c =
         placed = took_placed d d2 (stage_now c.args.stage) c.args.at.now.0 m seats c.read_client.ensures.desk c.read_client.ensures.reads c.requires.wants c.requires.placed;
         keeps = place_in d d2 seats net (reads_keep d d2 c.args.at.now.0 m c.read_client.ensures.reads).desk;
         touches = inl (refl, refl, refl, (reads_keep d d2 c.args.at.now.0 m c.read_client.ensures.reads).number, tt);
+        picks = (refl, kind_self (conn_seen (stage_now c.args.stage)), λ e. refl);
         routed = λ back r. r;
         told = subst (λ (x : Move). DeskTells x d (stage_now c.args.stage) d2) c.in-Idle.is (reads_told d d2 (stage_now c.args.stage) c.args.at.now.0 c.read_client.result c.read_client.ensures.reads);
       };
@@ -77,6 +82,7 @@ returns-in-Waits g c =
         placed = took_placed d d2 (stage_now c.args.stage) c.args.at.now.0 m seats c.read_client.ensures.desk c.read_client.ensures.reads c.requires.wants c.requires.placed;
         keeps = place_in d d2 seats net (reads_keep d d2 c.args.at.now.0 m c.read_client.ensures.reads).desk;
         touches = inl (refl, refl, refl, (reads_keep d d2 c.args.at.now.0 m c.read_client.ensures.reads).number, tt);
+        picks = (refl, kind_self (conn_seen (stage_now c.args.stage)), λ e. refl);
         routed = λ back r. r;
         told = subst (λ (x : Move). DeskTells x d (stage_now c.args.stage) d2) c.in-Waits.is (reads_told d d2 (stage_now c.args.stage) c.args.at.now.0 c.read_client.result c.read_client.ensures.reads);
       };

@@ -10,6 +10,9 @@ use Rattle.hx_session.specs.Parting.{Parted}
 use Rattle.hx_session.proofs.PartingLemmas.{turn_then}
 use Rattle.hx_connecting.specs.Journals.{room_of}
 use Rattle.hx_connecting.proofs.RoomLemmas.{rooms_none}
+use Rattle.hx_session.specs.Picking.{Picks}
+use Rattle.hx_session.specs.Seen.{conn_seen, chosen_seen}
+use Rattle.hx_session.proofs.PickLemmas.{so_turn, so_same}
 use Rattle.hx_session.proofs.phases.take_turn.Goals as goal
 
 pub returns-clause-placed : goal.returns-clause-placed
@@ -55,3 +58,15 @@ returns-clause-touches g c = λ d net d0 s0 hs net0 t n p.
 
 pub returns-in_default-clause-rooms : goal.returns-in_default-clause-rooms
 returns-in_default-clause-rooms g c = rooms_none g.S.HasHistory.history (room_of g.S.HasHistory.kept_from g.S.HasHistory.spare) c.args.seats.now
+
+pub returns-clause-picks : goal.returns-clause-picks
+returns-clause-picks g c = λ d s0 hs placed p.
+    let f = g.S.HasHistory.history in
+    let olds : List History = map f c.args.seats.now in
+    let news : List History = map f c.choose_server.new.seats in
+    let at = subst (λ (x : Came g.row.L.Denot). CamePlaced d x olds) c.in-On.is placed in
+    so_turn c.args.back.now.servers c.args.turn.now c.choose_server.new.turn s0 c.in-On.stage c.choose_server.result c.in-On.waits c.in-On.waits hs olds news at.good
+    (subst (λ (x : Came g.row.L.Denot). Picks (conn_seen s0) (chosen_seen s0) hs x olds) c.in-On.is p) c.choose_server.ensures.chooses
+
+pub returns-in_default-clause-picks : goal.returns-in_default-clause-picks
+returns-in_default-clause-picks g c = λ d s0 hs placed p. so_same c.args.back.now.servers c.args.turn.now s0 hs c.args.came (map g.S.HasHistory.history c.args.seats.now) p

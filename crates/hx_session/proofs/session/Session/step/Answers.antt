@@ -1,4 +1,4 @@
-use Rattle.std.proofs.Common.{◌∙◌, ℕ, List, length, map, refl, sym, ap, subst, true, None}
+use Rattle.std.proofs.Common.{◌∙◌, ◌<◌, arith, get_or, ℕ, List, length, map, refl, sym, ap, subst, true, None}
 use Rattle.std.proofs.lemmas.List.{length-map}
 use Rattle.hx_config.specs.declared.config.Config.{Config}
 use Rattle.hx_config.specs.declared.parts.Back.{Back}
@@ -30,6 +30,14 @@ use Rattle.hx_connecting.proofs.RoomLemmas.{rooms_none, rooms_stay}
 use Rattle.hx_session.specs.Marking.{AddsMarks}
 use Rattle.hx_session.specs.Parting.{first_of}
 use Rattle.hx_session.proofs.PartingLemmas.{adds_marks, no_marks}
+use Rattle.hx_connecting.specs.Sessions.{around_with}
+use Rattle.std.specs.List.{slice_set}
+use Rattle.hx_link.specs.Nets.{NetState}
+use Rattle.hx_session.specs.declared.step.Step.{Step}
+use Rattle.hx_session.specs.Picked.{StepPicks}
+use Rattle.hx_session.specs.Picking.{PicksAll}
+use Rattle.hx_session.proofs.ChosenLemmas.{step_picks}
+use Rattle.hx_session.proofs.EntryLemmas.{below}
 use Rattle.hx_session.proofs.session.Session.step.Goals as goal
 
 pub advance-stage-requires : goal.advance-stage-requires
@@ -163,3 +171,27 @@ returns-clause-links g c = λ goes.
     subst (λ (x : SessionNow). StepLinks x (session_seen front d2 s2) before after r) c.self.view_is
     (step_links front d d2 s s2 before after r keeps.who.worker keeps.who.session keeps.loop_no e.placed.set.own
     (done_holds d2 s2 news done.waits done.left c.advance-stage.ensures.done) w records)
+
+pub returns-clause-chooses : goal.returns-clause-chooses
+returns-clause-chooses g c = λ going.
+    let f = g.S.HasHistory.history in
+    let d : DeskNow = desk_now g.L.Link.state c.self.inside.desk in
+    let d2 : DeskNow = desk_now g.L.Link.state c.advance-stage.new.desk in
+    let s : StageNow = stage_now c.self.inside.stage in
+    let olds : List History = map f c.args.seats.now in
+    let news : List History = map f c.advance-stage.new.seats in
+    let config = c.args.config.now in
+    let scene = c.scene_of-scene.result in
+    let done = c.advance-stage.result in
+    let turns = c.args.turns.now in
+    let holds = subst (λ (x : SessionNow). HoldsAt x 0 olds) (sym c.self.view_is) c.requires.holds in
+    let place = scene.front.now.back in
+    let turn' = c.advance-stage.new.turn in
+    let front = c.self.inside.front in
+    let net : NetState = g.N.Net.state c.args.net.now in
+    let net2 : NetState = g.N.Net.state c.advance-stage.new.net in
+    let low : place < length turns = omega (arith, below config.backs place scene.back.now c.scene_of-scene.ensures.back, c.requires.turns.count) in
+    let r : Step = record { moved = done.moved; waits = done.waits; served = done.served; left = done.left } in
+    let picks = subst (λ (x : Stage g.row.L.Denot). PicksAll scene.back.now.servers (get_or turns place 0) turn' (stage_now x) olds (stage_now done.stage) news) c.replace-stage.ensures.value c.advance-stage.ensures.picks in
+    subst (λ (x : SessionNow). StepPicks (meaning config) x (session_seen front d2 (stage_now done.stage)) (around_with olds turns net) (around_with news (slice_set turns place turn') net2) r) c.self.view_is
+    (step_picks (meaning config) front d d2 s (stage_now done.stage) scene.front.now scene.back.now turns turn' olds news net net2 r c.scene_of-scene.ensures.front c.scene_of-scene.ensures.back low holds picks)
