@@ -1,0 +1,17 @@
+pub use Rattle.hx_session.specs.Fits
+pub use Rattle.hx_session.specs.Kept
+pub use Rattle.hx_session.specs.Marking
+pub use Rattle.hx_session.specs.Telling
+pub use Rattle.hx_connecting.specs.Sessions
+pub use Rattle.hx_connecting.specs.Holds
+pub use Rattle.hx_connecting.specs.Journals
+pub use Rattle.hx_caretaker.specs.Caring
+pub use Rattle.hx_caretaker.specs.Sweeps
+pub use Rattle.hx_caretaker.specs.Rounds
+pub use Rattle.hx_caretaker.specs.Orders
+pub mod Workers
+pub mod Admitting
+pub mod Steps
+pub mod Stops
+pub mod Cares
+pub mod Listed
