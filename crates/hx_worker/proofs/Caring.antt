@@ -78,6 +78,9 @@ served_count t (h ∷ hs) (x ∷ servers) v = ap suc (served_count t hs servers 
 pub seats_count : {S : Type 0} (h : S → History) (t : ThreadNo) (xs : List S) (servers : List Server) → SeatsServe t (map h xs) servers → length xs ≡ length servers
 seats_count h t xs servers v = sym (length-map xs h) ∙ served_count t (map h xs) servers v
 
+pub seats_few : {S : Type 0} (h : S → History) (t : ThreadNo) (xs : List S) (servers : List Server) → SeatsServe t (map h xs) servers → length servers ≤ 32 → length xs ≤ 32
+seats_few h t xs servers v few = let count = seats_count h t xs servers v in omega arith
+
 -- what the caretaker's work on the seats xs gives, which are ys behind it
 pub record CaredAll {S : Type 0} (P : ℕ → History → History → Sweep → Type 0) (h : S → History) (f : S → JournalRoom) (xs ys : List S) (net net' : NetState) (count : ℕ) : Type 0 where
   pub cares : CaresForAll P (map h xs) (map h ys) net net' count

@@ -1,7 +1,7 @@
 -- With what a worker begins, and what it keeps as a session comes.
-use Rattle.std.proofs.Common.{◌≡◌, ◌⊎◌, ℕ, zero, suc, ◌+◌, ◌<◌, ◌≤◌, true, false, List, [], ◌∷◌, ◌++◌, length, map, refl, sym, ap, ◌∙◌, subst, arith, Option, Some, None, inr}
+use Rattle.std.proofs.Common.{◌≡◌, ◌⊎◌, ℕ, zero, suc, ◌+◌, ◌<◌, ◌≤◌, true, false, List, [], ◌∷◌, ◌++◌, length, replicate, refl, sym, ap, ◌∙◌, subst, arith, Option, Some, None, inr}
 use Rattle.std.specs.Prelude.{slice_get}
-use Rattle.std.proofs.lemmas.List.{length-append, length-map}
+use Rattle.std.proofs.lemmas.List.{length-append, length-replicate}
 use mathlib.Core.Logic.{dite}
 use native.Mathlib.Decide.{ℕ_discrete}
 use Rattle.hx_base.specs.declared.numbers.Millis.{Millis}
@@ -9,7 +9,6 @@ use Rattle.hx_base.specs.declared.numbers.SessionNo.{SessionNo}
 use Rattle.hx_base.specs.declared.numbers.ThreadNo.{ThreadNo}
 use Rattle.hx_config.specs.Limits.{IsWithin, are_served}
 use Rattle.hx_config.specs.Meaning.{Meaning}
-use Rattle.hx_config.specs.declared.parts.Back.{Back}
 use Rattle.hx_config.specs.declared.parts.Front.{Front}
 use Rattle.hx_link.specs.Told.{LinkState}
 use Rattle.hx_pool.specs.SeatView.{History}
@@ -24,15 +23,15 @@ use Rattle.hx_worker.proofs.ByNumber.{session_here, session_past}
 
 -- ---- a new worker
 
-zero_there : (backs : List Back) (i t : ℕ) → slice_get (map (λ (b : Back). 0) backs) i ≡ Some t → t ≡ 0
-zero_there [] i t e = cc
-zero_there (b ∷ backs) zero t e = cc
-zero_there (b ∷ backs) (suc i) t e = zero_there backs i t e
+zero_there : (n i t : ℕ) → slice_get (replicate n 0) i ≡ Some t → t ≡ 0
+zero_there zero i t e = cc
+zero_there (suc n) zero t e = cc
+zero_there (suc n) (suc i) t e = zero_there n i t e
 
-first_turns_fit : (config : Meaning) → TurnsFit config (map (λ (b : Back). 0) config.backs)
-first_turns_fit config = record { count = length-map config.backs (λ (b : Back). 0); each = λ i t b e k. inr (zero_there config.backs i t e) }
+first_turns_fit : (config : Meaning) → TurnsFit config (replicate (length config.backs) 0)
+first_turns_fit config = record { count = length-replicate (length config.backs) 0; each = λ i t b e k. inr (zero_there (length config.backs) i t e) }
 
-pub new_sessions : (t : ThreadNo) (config : Meaning) (hs : List History) (js : List JournalRoom) (ts : List ℕ) → ts ≡ map (λ (b : Back). 0) config.backs → HasSessions (worker_now t config hs js ts 0 [])
+pub new_sessions : (t : ThreadNo) (config : Meaning) (hs : List History) (js : List JournalRoom) (ts : List ℕ) → ts ≡ replicate (length config.backs) 0 → HasSessions (worker_now t config hs js ts 0 [])
 new_sessions t config hs js ts is = record {
   rise = omega arith;
   few = omega arith;
@@ -78,12 +77,10 @@ new_routed threads config t n front now client within low =
 -- what the worker is behind an admission
 module _ (threads : ℕ) (w : WorkerNow) (client : LinkState) (front : ℕ) (now : Millis) (n : SessionNo) (fresh : IsAdmissible w client front) (number : n.0 ≡ w.last + 1) where
 
-  a : SessionNow
-  a = admitted w.thread n front now.0 client
-
   pub admit_sessions : IsWithin threads w.config.fronts w.config.backs → length w.sessions < 1024 → w.last < last_number → HasSessions w
       → HasSessions (worker_now w.thread w.config w.seats w.journals w.turns (w.last + 1) (w.sessions ++ admitted w.thread n front now.0 client ∷ []))
   admit_sessions within room left has =
+      let a : SessionNow = admitted w.thread n front now.0 client in
       let size = length-append w.sessions (a ∷ []) in record {
         rise = rise_more 0 w.last w.sessions a number has.rise;
         few = omega arith;
@@ -103,6 +100,6 @@ module _ (threads : ℕ) (w : WorkerNow) (client : LinkState) (front : ℕ) (now
   pub admit_seats : HasSeats w → HasSeats (worker_now w.thread w.config w.seats w.journals w.turns (w.last + 1) (w.sessions ++ admitted w.thread n front now.0 client ∷ []))
   admit_seats seats = record {
     serve = seats.serve;
-    owns = λ i h m e. subst (λ (c : Option Holding). HasJust h m c) (sym (held_more w.sessions a m.0 i refl)) (seats.owns i h m e);
+    owns = λ i h m e. subst (λ (c : Option Holding). HasJust h m c) (sym (held_more w.sessions (admitted w.thread n front now.0 client) m.0 i refl)) (seats.owns i h m e);
     one = seats.one;
   }

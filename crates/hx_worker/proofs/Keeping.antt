@@ -26,9 +26,9 @@ use Rattle.hx_worker.proofs.Owners.{owns_holds, owns_after, one_after, serve_aft
 from_zero : (k : ℕ) → 0 + k ≡ k
 from_zero k = omega arith
 
-some_there : (o : Option SessionNow) → IsSome o → (s : SessionNow) × (o ≡ Some s)
-some_there None i = cc
-some_there (Some s) i = (s, refl)
+pub none_there : (o : Option SessionNow) → IsSome o → o ≡ None → ⊥
+none_there None i e = cc
+none_there (Some s) i e = cc
 
 -- what the seats hold for a session that is there
 seats_hold : (w : WorkerNow) (s : SessionNow) (n : ℕ) → HasSeats w → HasSessions w → session_of w.sessions n ≡ Some s → HoldsAt s 0 w.seats

@@ -15,3 +15,4 @@ pub mod Steps
 pub mod Stops
 pub mod Cares
 pub mod Listed
+pub mod Lends

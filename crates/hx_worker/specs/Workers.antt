@@ -1,6 +1,6 @@
 -- What a worker shows to contracts, and what holds between its calls: each connection that its seats hold for a session is that
 -- session's, and each link in use is attached to its loop.
-use Rattle.std.specs.Prelude.{◌≡◌, ℕ, ◌==◌, ◌≤◌, ◌<◌, ◌^◌, ◌-◌, if◌then◌else◌, List, [], ◌∷◌, length, map, Option, Some, None, slice_get, ⊤}
+use Rattle.std.specs.Prelude.{◌≡◌, ℕ, ◌==◌, ◌≤◌, ◌<◌, ◌^◌, ◌-◌, if◌then◌else◌, List, [], ◌∷◌, length, replicate, Option, Some, None, slice_get, ⊤}
 use Rattle.hx_base.specs.declared.numbers.ThreadNo.{ThreadNo}
 use Rattle.hx_base.specs.declared.numbers.SessionNo.{SessionNo}
 use Rattle.hx_config.specs.Meaning.{Meaning}
@@ -94,7 +94,7 @@ pub record HasSeats (w : WorkerNow) : Type 0 where
 
 -- a worker before its first call: nobody is there, and each turn is 0
 abbrev pub new_worker : ThreadNo → Meaning → List History → List JournalRoom → WorkerNow
-new_worker t config seats journals = worker_now t config seats journals (map (λ b. 0) config.backs) 0 []
+new_worker t config seats journals = worker_now t config seats journals (replicate (length config.backs) 0) 0 []
 
 -- a call leaves its thread, its configuration, and which numbers were given
 pub record StaysWorker (w w' : WorkerNow) : Type 0 where

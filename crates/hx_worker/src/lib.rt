@@ -2,7 +2,6 @@
 #![tactic(auto)]
 
 mod answers;
-mod begin;
 mod worker;
 
 pub use answers::{NoEntry, Refused, Stopped};

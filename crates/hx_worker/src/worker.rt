@@ -1,5 +1,6 @@
 //! The worker of one thread.
-ghost use Rattle.std.specs.Prelude.{◌≡◌, ◌<◌, IsSome, OnOk, MatchResult, length, map};
+ghost use Rattle.std.specs.Prelude.{◌≡◌, ◌<◌, IsSome, IfOk, MatchResult, Some, length, map, slice_get};
+ghost use Rattle.std.specs.Borrow.{sem};
 ghost use Rattle.hx_config.specs.Limits.{all_servers};
 ghost use Rattle.hx_config.specs.Views.{meaning};
 ghost use Rattle.hx_caretaker.specs.Orders.{ordered_server};
@@ -7,12 +8,12 @@ ghost use Rattle.hx_connecting.specs.Journals.{room_of};
 ghost use Rattle.hx_worker.specs.Workers.{HasSeats, HasSessions, new_worker, session_of};
 ghost use Rattle.hx_worker.specs.Admitting.{IsAdmissible, Admits, RefusesFor, next_above};
 ghost use Rattle.hx_worker.specs.Steps.{Steps};
-ghost use Rattle.hx_worker.specs.Stops.{StopsNext};
+ghost use Rattle.hx_numbered.specs.Numbers.{AreAbove};
+ghost use Rattle.hx_worker.specs.Stops.{StopsNext, TakesLeast};
 ghost use Rattle.hx_worker.specs.Cares.{TicksAll, CarriesOut};
 
 use crate::answers::{NoEntry, Refused, Stopped};
-use crate::begin::{first_turns, take_least};
-use hx_base::{Millis, NoMemory, Order, SessionNo, ThreadNo};
+use hx_base::{Millis, NoMemory, Order, ServerNo, SessionNo, ThreadNo};
 use hx_caretaker::{order_seats, tick_seats};
 use hx_config::Config;
 use hx_conn::Rested;
@@ -25,6 +26,17 @@ use std::marker::Model;
 
 /// The most sessions that a worker has at a time.
 const MOST_SESSIONS: usize = 1_024;
+
+/// Takes out the session of the least number, if there is one.
+fn take_least<L: Link>(sessions: &mut Numbered<Session<L>>) -> Option<Session<L>>
+    requires above { AreAbove 0 sessions.old.items }
+    ensures { TakesLeast sessions.old.items sessions.new.items result }
+{
+    match sessions.number_above(0) {
+        Some(n) => sessions.remove(n),
+        None => None,
+    }
+}
 
 /// The sessions of one thread, and its seats, one for each server of the configuration.
 #[derive(Drop)]
@@ -58,6 +70,8 @@ impl<'a, S: Seat<Rested<L>>, L: Link> Model for Worker<'a, S, L> {
 }
 
 impl<'a, S: Seat<Rested<L>>, L: Link> Worker<'a, S, L> {
+    ghost use Rattle.hx_worker.specs.Lends.{lends_seat};
+
     /// A worker without sessions. It has one seat for each server of the configuration, in order.
     ///
     /// # Errors
@@ -70,10 +84,10 @@ impl<'a, S: Seat<Rested<L>>, L: Link> Worker<'a, S, L> {
     ) -> Result<Worker<'a, S, L>, NoMemory>
         requires seats { HasSeats (new_worker thread (meaning config.now) (map S.history seats.items)
             (map (room_of S.kept_from S.spare) seats.items)) }
-        ensures begins { OnOk result (λ w. w ≡ new_worker thread (meaning config.now) (map S.history seats.items)
+        ensures begins { IfOk result (λ w. w ≡ new_worker thread (meaning config.now) (map S.history seats.items)
             (map (room_of S.kept_from S.spare) seats.items)) }
     {
-        let turns = first_turns(alloc, &config.backs)?;
+        let turns = vec![in alloc; 0; config.backs.as_slice().len()]?;
         Ok(Worker {
             alloc,
             thread,
@@ -160,9 +174,10 @@ impl<'a, S: Seat<Rested<L>>, L: Link> Worker<'a, S, L> {
         );
         match step.waits {
             Waits::Ended => {
-                if let Some(session) = self.sessions.remove(n.0) {
-                    net.bury(session.end());
-                }
+                let Some(session) = self.sessions.remove(n.0) else {
+                    unreachable!()
+                };
+                net.bury(session.end());
             }
             Waits::Nothing | Waits::Client | Waits::Server => {}
         }
@@ -177,7 +192,6 @@ impl<'a, S: Seat<Rested<L>>, L: Link> Worker<'a, S, L> {
         ensures ticks { TicksAll self.old self.new (N.state net.old) (N.state net.new) now result }
         ensures seats { HasSeats self.new }
     {
-        let _threads = self.config.threads;
         tick_seats(self.seats.as_mut_slice(), net, now)
     }
 
@@ -200,7 +214,6 @@ impl<'a, S: Seat<Rested<L>>, L: Link> Worker<'a, S, L> {
         ensures stops { StopsNext self.old self.new (N.state net.old) (N.state net.new) result }
         ensures seats { HasSeats self.new }
     {
-        let _threads = self.config.threads;
         match take_least(&mut self.sessions) {
             Some(session) => {
                 let Stop {
@@ -213,5 +226,16 @@ impl<'a, S: Seat<Rested<L>>, L: Link> Worker<'a, S, L> {
             }
             None => None,
         }
+    }
+
+    /// The seat of a server, for what a caller does at it between calls. The next call of the worker asks anew that the
+    /// seats hold what its sessions have.
+    pub fn seat_mut(&mut self, server: ServerNo) -> &mut S
+        requires there { server.0 < length self.old.seats }
+        ensures* writes_back { sem 𝓛 (lends_seat S.row L.row S.HasHistory L.Link self.entry server.0 result) }
+        ensures value { slice_get self.old.seats server.0 ≡ Some (S.history result.now) }
+        ensures room { slice_get self.old.journals server.0 ≡ Some (room_of S.kept_from S.spare result.now) }
+    {
+        &mut self.seats[server.0 as usize]
     }
 }
