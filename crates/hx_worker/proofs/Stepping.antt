@@ -8,13 +8,13 @@ use Rattle.hx_config.specs.Meaning.{Meaning}
 use Rattle.hx_link.specs.Told.{LinkState}
 use Rattle.hx_link.specs.Nets.{NetState, NetBuries}
 use Rattle.hx_pool.specs.SeatView.{About, History}
-use Rattle.hx_caretaker.proofs.SweepLemmas.{buries_one}
+use Rattle.hx_caretaker.specs.Sweeps.{BuriesAll}
 use Rattle.hx_connecting.specs.Around.{abouts}
 use Rattle.hx_connecting.specs.Holds.{HoldsAt}
 use Rattle.hx_connecting.specs.Journals.{JournalRoom, JournalsStay}
 use Rattle.hx_connecting.specs.Sessions.{SessionNow, Around, around_with, is_first}
 use Rattle.hx_connecting.specs.Touches.{most_marks}
-use Rattle.hx_numbered.specs.Numbers.{with_value, removed}
+use Rattle.hx_numbered.specs.Numbers.{value_of, with_value, removed}
 use Rattle.hx_session.specs.Fits.{IsGoing, TurnsFit, SeatsServe}
 use Rattle.hx_session.specs.Kept.{IsSameStep, IsStopped}
 use Rattle.hx_session.specs.Marking.{AddsMarks}
@@ -23,19 +23,19 @@ use Rattle.hx_session.specs.declared.step.Step.{Step}
 use Rattle.hx_session.specs.declared.step.Waits.{Waits}
 use Rattle.hx_session.specs.declared.step.Waits.TheVariants as waits
 use Rattle.hx_worker.specs.declared.answers.Stopped.{Stopped}
-use Rattle.hx_worker.specs.Workers.{WorkerNow, worker_now, session_of, HasSessions, HasSeats}
+use Rattle.hx_worker.specs.Workers.{WorkerNow, worker_now, session_of, IsOurs, HasSessions, HasSeats}
 use Rattle.hx_worker.specs.Steps.{SessionStep, Steps, BuriesClient, placed}
 use Rattle.hx_worker.specs.Stops.{SessionStop, StopsOne, TakesLeast}
 use Rattle.hx_worker.specs.Listed.{sessions_of, AreUnderTheirs}
-use Rattle.hx_worker.proofs.ByNumber.{session_here}
-use Rattle.hx_worker.proofs.Items.{with_under, removed_under, with_placed, removed_placed}
+use Rattle.hx_worker.proofs.ByNumber.{each_found, session_here}
+use Rattle.hx_worker.proofs.Items.{value_is, with_under, removed_under, with_placed, removed_placed, with_found}
 use Rattle.hx_worker.proofs.Keeping.{MayCall, may_call, Stepped, step_sessions, step_seats, stepped, after_number, stop_sessions, stop_seats, stopped_one}
 use Rattle.hx_worker.proofs.Owners.{few_marks}
 
 some_is : {A : Type 0} (a b : A) → Some a ≡ Some b → a ≡ b
 some_is a b e = cc
 
-pub some_same : {A : Type 0} (o : Option A) (a b : A) → o ≡ Some a → o ≡ Some b → a ≡ b
+some_same : {A : Type 0} (o : Option A) (a b : A) → o ≡ Some a → o ≡ Some b → a ≡ b
 some_same o a b e k = some_is a b (sym e ∙ k)
 
 not_over : (b : Bool) → (b ≡ true → ⊥) → b ≡ false
@@ -59,7 +59,7 @@ pub record StepEnsures (config : Meaning) (s a : SessionNow) (before after : Aro
   pub serve : SeatsServe s.worker after.seats (all_servers config.backs)
 
 -- so it makes the worker's session step
-pub step_made : (config : Meaning) (n : ℕ) (ss : List SessionNow) (s a : SessionNow) (before after : Around) (r : Step) → session_of ss n ≡ Some s → IsGoing config s → StepEnsures config s a before after r
+step_made : (config : Meaning) (n : ℕ) (ss : List SessionNow) (s a : SessionNow) (before after : Around) (r : Step) → session_of ss n ≡ Some s → IsGoing config s → StepEnsures config s a before after r
     → Stepped config n ss s a before after r
 step_made config n ss s a before after r there going e = record {
   there = there;
@@ -78,7 +78,7 @@ step_made config n ss s a before after r there going e = record {
 }
 
 -- the same, of the lists that the worker has
-pub settled : {S : Type 0} (h : S → History) (xs ys xs' ys' : List S) (ts us ts' us' : List ℕ) (config : Meaning) (s a : SessionNow) (net mid : NetState) (r : Step)
+settled : {S : Type 0} (h : S → History) (xs ys xs' ys' : List S) (ts us ts' us' : List ℕ) (config : Meaning) (s a : SessionNow) (net mid : NetState) (r : Step)
     → xs ≡ ys → ts ≡ us → xs' ≡ ys' → ts' ≡ us' → StepEnsures config s a (around_with (map h xs) ts net) (around_with (map h xs') ts' mid) r
     → StepEnsures config s a (around_with (map h ys) us net) (around_with (map h ys') us' mid) r
 settled {S} h xs ys xs' ys' ts us ts' us' config s a net mid r e f g k x =
@@ -93,6 +93,16 @@ settled_rooms {S} f k xs ys xs' ys' a b j =
 
 -- ---- what the worker's step owes
 
+-- one burial
+buries_one : (a b : NetState) (l : LinkState) → NetBuries a b l → BuriesAll (l ∷ []) a b
+buries_one a b l n = record {
+  buried = n.3;
+  dials = n.2;
+  loop = ap (λ (s : NetState). s.loop_no) n.0;
+  course = ap (λ (s : NetState). s.course) n.0;
+  faults = n.1;
+}
+
 -- the sessions are sound, the seats are those that it asks for, and what a caller learns
 pub record StepDone (w w' : WorkerNow) (items' : List (ℕ × SessionNow)) (net net' : NetState) (n : SessionNo) (r : Step) : Type 0 where
   pub under : AreUnderTheirs items'
@@ -105,7 +115,7 @@ module _ (t : ThreadNo) (config : Meaning) (hs hs' : List History) (js js' : Lis
     (journals : JournalsStay most_marks js js') where
 
   number : a.number.0 ≡ n.0
-  number = after_number t config hs hs' js ts ts' last (sessions_of items) net mid n.0 r s a x has
+  number = after_number t config hs hs' js js' ts ts' last (sessions_of items) net mid n.0 r s a x has
 
   -- with these sessions behind it
   done : (items' : List (ℕ × SessionNow)) (net' : NetState) → AreUnderTheirs items' → sessions_of items' ≡ placed (sessions_of items) a → BuriesClient a.over a.client mid net'
@@ -118,20 +128,50 @@ module _ (t : ThreadNo) (config : Meaning) (hs hs' : List History) (js js' : Lis
   }
 
   -- a session that goes on
-  pub goes_on : (r.waits ≡ waits.Ended → ⊥)
+  goes_on : (r.waits ≡ waits.Ended → ⊥)
       → StepDone (worker_now t config hs js ts last (sessions_of items)) (worker_now t config hs' js' ts' last (sessions_of (with_value items n.0 a))) (with_value items n.0 a) net mid n r
   goes_on never =
       let on : a.over ≡ false = not_over a.over (λ over. never (x.step.ended.1 over)) in
       done (with_value items n.0 a) mid (with_under items n.0 a number under) (with_placed items n.0 a number on under) (subst (λ b. BuriesClient b a.client mid mid) (sym on) refl)
 
   -- and one that ended, whose client's link l is buried
-  pub is_gone : (gone : List (ℕ × SessionNow)) (net' : NetState) (l : LinkState) → r.waits ≡ waits.Ended → gone ≡ removed (with_value items n.0 a) n.0 → l ≡ a.client → NetBuries mid net' l
+  is_gone : (gone : List (ℕ × SessionNow)) (net' : NetState) (l : LinkState) → r.waits ≡ waits.Ended → gone ≡ removed (with_value items n.0 a) n.0 → l ≡ a.client → NetBuries mid net' l
       → StepDone (worker_now t config hs js ts last (sessions_of items)) (worker_now t config hs' js' ts' last (sessions_of gone)) gone net net' n r
   is_gone gone net' l ended rest is buries =
       let over : a.over ≡ true = x.step.ended.0 ended in
       done gone net' (subst AreUnderTheirs (sym rest) (removed_under (with_value items n.0 a) n.0 (with_under items n.0 a number under)))
       (ap sessions_of rest ∙ removed_placed items n.0 a number over under)
       (subst (λ b. BuriesClient b a.client mid net') (sym over) (x.left over, buries_one mid net' a.client (subst (NetBuries mid net') is buries)))
+
+-- the same from what the session's call ensures, of the lists that are lent to it
+module _ {S : Type 0} (h : S → History) (f : S → JournalRoom) (t : ThreadNo) (config : Meaning) (last : ℕ) (items : List (ℕ × SessionNow)) (xs ys xs' ys' : List S) (ts us ts' us' : List ℕ)
+    (net mid : NetState) (n : SessionNo) (r : Step) (s a : SessionNow) (before : xs ≡ ys) (turns : ts ≡ us) (behind : xs' ≡ ys') (turns' : ts' ≡ us') (value : Some s ≡ value_of items n.0)
+    (ensures : StepEnsures config s a (around_with (map h xs) ts net) (around_with (map h xs') ts' mid) r) (rooms : JournalsStay most_marks (map f xs) (map f xs'))
+    (under : AreUnderTheirs items) (has : HasSessions (worker_now t config (map h ys) (map f ys) us last (sessions_of items))) where
+
+  made : Stepped config n.0 (sessions_of items) s a (around_with (map h ys) us net) (around_with (map h ys') us' mid) r
+  made =
+      let there : session_of (sessions_of items) n.0 ≡ Some s = sym (value_is items n.0 under) ∙ sym value in
+      let found = each_found (IsOurs t config) (sessions_of items) n.0 s there has.ours in
+      step_made config n.0 (sessions_of items) s a (around_with (map h ys) us net) (around_with (map h ys') us' mid) r there found.1.going
+      (settled h xs ys xs' ys' ts us ts' us' config s a net mid r before turns behind turns' ensures)
+
+  pub stays_here : (r.waits ≡ waits.Ended → ⊥)
+      → StepDone (worker_now t config (map h ys) (map f ys) us last (sessions_of items)) (worker_now t config (map h ys') (map f ys') us' last (sessions_of (with_value items n.0 a)))
+      (with_value items n.0 a) net mid n r
+  stays_here never =
+      goes_on t config (map h ys) (map h ys') (map f ys) (map f ys') us us' last items net mid n r s a made under has
+      (settled_rooms f most_marks xs ys xs' ys' before behind rooms) never
+
+  pub gone_here : (gone : List (ℕ × SessionNow)) (net' : NetState) (l : LinkState) → r.waits ≡ waits.Ended → gone ≡ removed (with_value items n.0 a) n.0 → l ≡ a.client → NetBuries mid net' l
+      → StepDone (worker_now t config (map h ys) (map f ys) us last (sessions_of items)) (worker_now t config (map h ys') (map f ys') us' last (sessions_of gone)) gone net net' n r
+  gone_here gone net' l ended rest is buries =
+      is_gone t config (map h ys) (map h ys') (map f ys) (map f ys') us us' last items net mid n r s a made under has
+      (settled_rooms f most_marks xs ys xs' ys' before behind rooms) gone net' l ended rest is buries
+
+-- what is taken out behind a step is the session behind it
+pub taken_out : (items : List (ℕ × SessionNow)) (n : ℕ) (s a taken : SessionNow) → Some s ≡ value_of items n → Some taken ≡ value_of (with_value items n a) n → taken ≡ a
+taken_out items n s a taken value out = some_same (value_of (with_value items n a) n) taken a (sym out) (with_found items n s a (sym value))
 
 -- ---- a stop
 

@@ -11,6 +11,7 @@ use Rattle.hx_worker.specs.Listed.{sessions_of, AreUnderTheirs}
 use Rattle.hx_worker.proofs.Items.{numbered, below_next, more_under, more_sessions}
 use Rattle.hx_worker.proofs.Coming.{admit_sessions, admit_seats}
 use Rattle.hx_worker.proofs.worker.Worker.admit.Goals as goal
+use Rattle.hx_worker.proofs.worker.Worker.admit.Goals.{After-insert_reserved}
 
 pub insert_reserved-requires-clause-greatest : goal.insert_reserved-requires-clause-greatest
 insert_reserved-requires-clause-greatest g c =
@@ -19,7 +20,7 @@ insert_reserved-requires-clause-greatest g c =
     (below_next 0 i.last (i.last + 1) i.sessions.items (omega arith) c.self.invariant.has.rise c.self.invariant.under)
 
 -- the sessions with one more
-more : (g : _) (c : goal.After-insert_reserved g)
+more : (g : _) (c : After-insert_reserved g)
     → c.insert_reserved.new.self.items ≡ c.self.inside.sessions.items ++ (c.self.inside.last + 1, admitted c.self.inside.thread (numbered (c.self.inside.last + 1)) c.args.front c.args.now.0 (g.L.Link.state c.args.client)) ∷ []
 more g c =
     let i = c.self.inside in

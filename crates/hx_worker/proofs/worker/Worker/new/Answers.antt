@@ -15,5 +15,5 @@ invariant_of-result g c =
     record {
       under = subst AreUnderTheirs (sym c.new.ensures) tt;
       has = subst (λ (l : List (ℕ × SessionNow)). HasSessions (worker_now c.args.thread config hs js turns 0 (sessions_of l))) (sym c.new.ensures)
-          (new_sessions c.args.thread config hs js turns (c.in_ok-turns.ensures.items ∙ ap (λ (l : List Back). replicate (length l) 0) c.as_slice.ensures));
+          (new_sessions c.args.thread config hs js turns (c.in_ok-turns.ensures.items_if_clones_equal (λ y same. same) ∙ ap (λ (l : List Back). replicate (length l) 0) c.as_slice.ensures));
     }

@@ -20,7 +20,7 @@ order_seats-requires g c =
         (subst (λ n. server < n) (sym (seats_count S.history i.thread i.seats.items (all_servers i.config.now.backs) seats.serve)) low) }
 
 -- what the caretaker did, of the seats that the worker has
-done : (g : _) (c : goal.After-order_seats g)
+done : (g : _) (c : goal.After-self-1 g)
     → CaredAll (OrdersAt c.args.what) g.S.HasHistory.history (room_of g.S.HasHistory.kept_from g.S.HasHistory.spare) c.self.inside.seats.items
     (with_items c.self.inside.seats c.order_seats.new.seats).items (g.N.Net.state c.args.net.now) (g.N.Net.state c.order_seats.new.net) c.order_seats.result
 done g c =

@@ -1,4 +1,4 @@
-use Rattle.std.proofs.Common.{rules, ◌≡◌, ℕ, List, [], length, map, sym, ap, ◌∙◌, subst, refl, Some, None}
+use Rattle.std.proofs.Common.{arith, ◌≡◌, ℕ, List, [], length, map, sym, ap, ◌∙◌, subst, refl, Some, None}
 use Rattle.std.proofs.lemmas.List.{with_items_is}
 use Rattle.std.specs.Vec.{with_items}
 use Rattle.hx_config.specs.Views.{meaning}
@@ -13,15 +13,16 @@ use Rattle.hx_worker.specs.Listed.{sessions_of}
 use Rattle.hx_worker.specs.Stops.{StopsNext, TakesLeast}
 use Rattle.hx_worker.proofs.Items.{above_all}
 use Rattle.hx_worker.proofs.Keeping.{MayCall, may_stop}
-use Rattle.hx_worker.proofs.Stepping.{StopDone, StopEnsures, least_first, least_may, stop_done, settled_stop, settled_rooms}
+use Rattle.hx_worker.proofs.Stepping.{StopDone, StopEnsures, least_first, least_may, stop_done, stop_size, settled_stop, settled_rooms}
 use Rattle.hx_worker.proofs.worker.Worker.stop_next.Goals as goal
+use Rattle.hx_worker.proofs.worker.Worker.stop_next.Goals.{After-bury}
 
 pub take_least-requires : goal.take_least-requires
 take_least-requires g c =
     let i = c.self.inside in
-    above_all 0 0 i.last i.sessions.items (search rules) c.self.invariant.has.rise c.self.invariant.under
+    record { above = above_all 0 0 i.last i.sessions.items (omega arith) c.self.invariant.has.rise c.self.invariant.under }
 
-may : (g : _) (c : goal.After-as_mut_slice g)
+may : (g : _) (c : goal.After-stop-arg-1 g)
     → MayCall (worker_now c.self.inside.thread (meaning c.self.inside.config.now) (map g.S.HasHistory.history c.self.inside.seats.items)
     (map (room_of g.S.HasHistory.kept_from g.S.HasHistory.spare) c.self.inside.seats.items) c.self.inside.turns.items c.self.inside.last (sessions_of c.self.inside.sessions.items))
     c.in-Some.session.number.0 (g.N.Net.state c.args.net.now).loop_no c.in-Some.session
@@ -47,7 +48,7 @@ stop-served-requires g c =
     }
 
 -- what the stop of that session owes
-done : (g : _) (c : goal.After-bury g)
+done : (g : _) (c : After-bury g)
     → StopDone
     (worker_now c.self.inside.thread (meaning c.self.inside.config.now) (map g.S.HasHistory.history c.self.inside.seats.items)
     (map (room_of g.S.HasHistory.kept_from g.S.HasHistory.spare) c.self.inside.seats.items) c.self.inside.turns.items c.self.inside.last (sessions_of c.self.inside.sessions.items))

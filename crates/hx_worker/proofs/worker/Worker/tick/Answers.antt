@@ -18,7 +18,7 @@ tick_seats-requires g c =
         (seats_few S.history i.thread i.seats.items (all_servers i.config.now.backs) seats.serve i.config.now.within.servers_in) }
 
 -- what the caretaker did, of the seats that the worker has
-done : (g : _) (c : goal.After-tick_seats g)
+done : (g : _) (c : goal.After-self-1 g)
     → CaredAll (TicksAt c.args.now) g.S.HasHistory.history (room_of g.S.HasHistory.kept_from g.S.HasHistory.spare) c.self.inside.seats.items
     (with_items c.self.inside.seats c.tick_seats.new.seats).items (g.N.Net.state c.args.net.now) (g.N.Net.state c.tick_seats.new.net) c.tick_seats.result
 done g c =
