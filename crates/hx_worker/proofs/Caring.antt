@@ -1,5 +1,5 @@
 -- What a worker keeps through the caretaker's work on all its servers.
-use Rattle.std.proofs.Common.{◌≡◌, ◌≢◌, ℕ, zero, suc, ◌+◌, ◌<◌, ◌≤◌, List, [], ◌∷◌, length, map, refl, sym, ap, ◌∙◌, subst, arith, Option, Some, None}
+use Rattle.std.proofs.Common.{◌≡◌, ◌≢◌, ℕ, zero, suc, ◌≤◌, List, [], ◌∷◌, length, map, refl, sym, ap, ◌∙◌, subst, arith, Option, Some, None}
 use Rattle.std.specs.Prelude.{slice_get}
 use Rattle.std.proofs.lemmas.List.{length-map}
 use mathlib.Core.Logic.{dite}
@@ -21,7 +21,7 @@ use Rattle.hx_connecting.specs.Holds.{HasJust}
 use Rattle.hx_connecting.specs.Journals.{JournalRoom, JournalsStay}
 use Rattle.hx_connecting.specs.Sessions.{SessionNow, Holding}
 use Rattle.hx_session.specs.Fits.{SeatsServe}
-use Rattle.hx_worker.specs.Workers.{WorkerNow, worker_now, Each, OwnsAll, NumbersRise, held_of, session_of, HasSessions, HasSeats}
+use Rattle.hx_worker.specs.Workers.{worker_now, Each, OwnsAll, NumbersRise, held_of, session_of, HasSessions, HasSeats}
 use Rattle.hx_worker.specs.Cares.{Cares}
 use Rattle.hx_worker.proofs.ByNumber.{none_behind}
 use Rattle.hx_worker.proofs.Items.{number_is}
@@ -95,7 +95,6 @@ cared_of {S} P h f us xs vs ys net net' count a b c =
 
 module _ {S : Type 0} (P : ℕ → History → History → Sweep → Type 0) (h : S → History) (f : S → JournalRoom) (t : ThreadNo) (config : Meaning) (xs ys : List S) (ts : List ℕ) (last : ℕ) (ss : List SessionNow)
     (net net' : NetState) (count : ℕ) (c : CaredAll P h f xs ys net net' count) where
-
   pub cares_done : Cares P (worker_now t config (map h xs) (map f xs) ts last ss) (worker_now t config (map h ys) (map f ys) ts last ss) net net' count
   cares_done = record {
     stays = record { thread = refl; config = refl; last = refl };

@@ -1,5 +1,5 @@
 -- With what a worker begins, and what it keeps as a session comes.
-use Rattle.std.proofs.Common.{◌≡◌, ◌⊎◌, ℕ, zero, suc, ◌+◌, ◌<◌, ◌≤◌, true, false, List, [], ◌∷◌, ◌++◌, length, replicate, refl, sym, ap, ◌∙◌, subst, arith, Option, Some, None, inr}
+use Rattle.std.proofs.Common.{◌≡◌, ℕ, zero, suc, ◌+◌, ◌<◌, List, [], ◌∷◌, ◌++◌, length, replicate, refl, sym, ap, ◌∙◌, subst, arith, Option, Some, None, inr}
 use Rattle.std.specs.Prelude.{slice_get}
 use Rattle.std.proofs.lemmas.List.{length-append, length-replicate}
 use mathlib.Core.Logic.{dite}
@@ -7,18 +7,17 @@ use native.Mathlib.Decide.{ℕ_discrete}
 use Rattle.hx_base.specs.declared.numbers.Millis.{Millis}
 use Rattle.hx_base.specs.declared.numbers.SessionNo.{SessionNo}
 use Rattle.hx_base.specs.declared.numbers.ThreadNo.{ThreadNo}
-use Rattle.hx_config.specs.Limits.{IsWithin, are_served}
+use Rattle.hx_config.specs.Limits.{IsWithin}
 use Rattle.hx_config.specs.Meaning.{Meaning}
-use Rattle.hx_config.specs.declared.parts.Front.{Front}
 use Rattle.hx_link.specs.Told.{LinkState}
 use Rattle.hx_pool.specs.SeatView.{History}
 use Rattle.hx_connecting.specs.Holds.{HasJust, conn_at}
 use Rattle.hx_connecting.specs.Journals.{JournalRoom}
 use Rattle.hx_connecting.specs.Sessions.{SessionNow, Holding, admitted}
-use Rattle.hx_session.specs.Fits.{IsGoing, IsRouted, TurnsFit}
+use Rattle.hx_session.specs.Fits.{IsRouted, TurnsFit}
 use Rattle.hx_session.proofs.EntryLemmas.{back_there}
-use Rattle.hx_worker.specs.Workers.{WorkerNow, worker_now, new_worker, Each, session_of, held_of, OwnsAll, NumbersRise, IsOurs, HasSessions, HasSeats, last_number}
-use Rattle.hx_worker.specs.Admitting.{IsAdmissible, Admits}
+use Rattle.hx_worker.specs.Workers.{WorkerNow, worker_now, Each, session_of, held_of, NumbersRise, IsOurs, HasSessions, HasSeats, last_number}
+use Rattle.hx_worker.specs.Admitting.{IsAdmissible}
 use Rattle.hx_worker.proofs.ByNumber.{session_here, session_past}
 
 -- ---- a new worker
@@ -76,7 +75,6 @@ new_routed threads config t n front now client within low =
 
 -- what the worker is behind an admission
 module _ (threads : ℕ) (w : WorkerNow) (client : LinkState) (front : ℕ) (now : Millis) (n : SessionNo) (fresh : IsAdmissible w client front) (number : n.0 ≡ w.last + 1) where
-
   pub admit_sessions : IsWithin threads w.config.fronts w.config.backs → length w.sessions < 1024 → w.last < last_number → HasSessions w
       → HasSessions (worker_now w.thread w.config w.seats w.journals w.turns (w.last + 1) (w.sessions ++ admitted w.thread n front now.0 client ∷ []))
   admit_sessions within room left has =

@@ -1,5 +1,5 @@
 -- What a worker keeps through a step and a stop of one of its sessions.
-use Rattle.std.proofs.Common.{◌≡◌, ℕ, ◌+◌, ◌≤◌, true, false, List, [], ◌∷◌, length, refl, sym, ap, ◌∙◌, subst, arith, Option, Some, None, IsSome}
+use Rattle.std.proofs.Common.{◌≡◌, ℕ, ◌+◌, true, false, List, ◌∷◌, refl, sym, ap, ◌∙◌, subst, arith, Option, Some, None, IsSome}
 use Rattle.hx_base.specs.declared.numbers.SessionNo.{SessionNo}
 use Rattle.hx_base.specs.declared.numbers.ThreadNo.{ThreadNo}
 use Rattle.hx_config.specs.Limits.{all_servers, are_numbered}
@@ -9,7 +9,7 @@ use Rattle.hx_link.specs.Nets.{NetState}
 use Rattle.hx_pool.specs.declared.entries.Note.{Note}
 use Rattle.hx_pool.specs.SeatView.{History}
 use Rattle.hx_record.specs.declared.served.Left.{Left}
-use Rattle.hx_connecting.specs.Holds.{HasJust, HoldsAt, HoldsConn, conn_at}
+use Rattle.hx_connecting.specs.Holds.{HasJust, HoldsAt, conn_at}
 use Rattle.hx_connecting.specs.Journals.{JournalRoom, JournalsStay}
 use Rattle.hx_connecting.specs.Sessions.{SessionNow, Around, around_with, is_first}
 use Rattle.hx_connecting.specs.Touches.{AllOf, HasMarks, most_marks}
@@ -17,10 +17,10 @@ use Rattle.hx_session.specs.Fits.{FitsSome, IsGoing, TurnsFit, SeatsServe}
 use Rattle.hx_session.specs.Records.{Leaves}
 use Rattle.hx_session.specs.declared.step.Step.{Step}
 use Rattle.hx_worker.specs.declared.answers.Stopped.{Stopped}
-use Rattle.hx_worker.specs.Workers.{WorkerNow, worker_now, Each, session_of, held_of, OwnsAll, NumbersRise, IsOurs, HasSessions, HasSeats, most_sessions}
+use Rattle.hx_worker.specs.Workers.{WorkerNow, worker_now, session_of, held_of, IsOurs, HasSessions, HasSeats}
 use Rattle.hx_worker.specs.Steps.{SessionStep, Steps, BuriesClient, placed}
 use Rattle.hx_worker.specs.Stops.{SessionStop, StopsOne}
-use Rattle.hx_worker.proofs.ByNumber.{session_here, session_past, none_behind, placed_other, placed_held, placed_rise, placed_each, placed_few, each_found, rise_rest}
+use Rattle.hx_worker.proofs.ByNumber.{session_past, none_behind, placed_other, placed_held, placed_rise, placed_each, placed_few, each_found, rise_rest}
 use Rattle.hx_worker.proofs.Owners.{owns_holds, owns_after, one_after, serve_after}
 
 from_zero : (k : ℕ) → 0 + k ≡ k
@@ -83,7 +83,6 @@ gone_empty s (Some left) l over = l.conn
 
 module _ (t : ThreadNo) (config : Meaning) (hs hs' : List History) (js js' : List JournalRoom) (ts ts' : List ℕ) (last : ℕ) (ss : List SessionNow) (net mid : NetState) (n : ℕ) (r : Step) (s a : SessionNow)
     (x : Stepped config n ss s a (around_with hs ts net) (around_with hs' ts' mid) r) (has : HasSessions (worker_now t config hs js ts last ss)) where
-
   found : (s.number.0 ≡ n) × IsOurs t config s
   found = each_found (IsOurs t config) ss n s x.there has.ours
 
@@ -134,7 +133,6 @@ stepped t config hs hs' js js' ts ts' last ss ss' net mid net' n r s a x is buri
 
 module _ (t : ThreadNo) (config : Meaning) (hs hs' : List History) (js js' : List JournalRoom) (ts : List ℕ) (last : ℕ) (s : SessionNow) (others : List SessionNow) (client : LinkState) (net mid : NetState) (x : Stopped)
     (has : HasSessions (worker_now t config hs js ts last (s ∷ others))) (stop : SessionStop s client hs hs' net mid x) where
-
   pub stop_sessions : HasSessions (worker_now t config hs' js' ts last others)
   stop_sessions = let few = has.few in record { rise = rise_rest 0 last s others has.rise; few = omega arith; most = has.most; ours = has.ours.1; turns = has.turns }
 

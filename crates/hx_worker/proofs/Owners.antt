@@ -1,5 +1,5 @@
 -- One session's call leaves what the seats hold for every other number.
-use Rattle.std.proofs.Common.{◌≡◌, ◌≢◌, ℕ, zero, suc, ◌+◌, ◌≤◌, Bool, true, false, List, [], ◌∷◌, ◌++◌, length, refl, sym, ap, ◌∙◌, subst, arith, Option, Some, None, length-append}
+use Rattle.std.proofs.Common.{◌≡◌, ◌≢◌, ℕ, zero, suc, ◌+◌, ◌≤◌, Bool, true, false, List, [], ◌∷◌, length, refl, sym, ap, ◌∙◌, subst, arith, Option, Some, None, length-append}
 use Rattle.std.specs.Prelude.{slice_get, if◌then◌else◌, ◌==◌}
 use mathlib.Core.Logic.{dite}
 use native.Mathlib.Decide.{ℕ_discrete}
@@ -11,8 +11,7 @@ use Rattle.hx_config.specs.declared.parts.Server.{Server}
 use Rattle.hx_pool.specs.declared.entries.Entry.{Entry}
 use Rattle.hx_pool.specs.declared.entries.Entry.TheVariants.{Open, Park, Take, Free, Close, Look, Up, Down, Count, Gate, SetGate, Round}
 use Rattle.hx_pool.specs.declared.entries.Note.{Note}
-use Rattle.hx_pool.specs.Held.{held_by, IsApart, AllApart}
-use Rattle.hx_pool.specs.History.{marks_of}
+use Rattle.hx_pool.specs.Held.{IsApart, AllApart}
 use Rattle.hx_pool.specs.SeatView.{About, History, Makes, StandsInOneHistory}
 use Rattle.hx_pool.proofs.HeldCalls.{held_apart}
 use Rattle.hx_connecting.specs.Holds.{HasJust, conn_at, HoldsConn}

@@ -24,7 +24,7 @@ use Rattle.hx_session.specs.declared.step.Waits.{Waits}
 use Rattle.hx_session.specs.declared.step.Waits.TheVariants as waits
 use Rattle.hx_worker.specs.declared.answers.Stopped.{Stopped}
 use Rattle.hx_worker.specs.Workers.{WorkerNow, worker_now, session_of, IsOurs, HasSessions, HasSeats}
-use Rattle.hx_worker.specs.Steps.{SessionStep, Steps, BuriesClient, placed}
+use Rattle.hx_worker.specs.Steps.{Steps, BuriesClient, placed}
 use Rattle.hx_worker.specs.Stops.{SessionStop, StopsOne, TakesLeast}
 use Rattle.hx_worker.specs.Listed.{sessions_of, AreUnderTheirs}
 use Rattle.hx_worker.proofs.ByNumber.{each_found, session_here}
@@ -113,7 +113,6 @@ pub record StepDone (w w' : WorkerNow) (items' : List (ℕ × SessionNow)) (net 
 module _ (t : ThreadNo) (config : Meaning) (hs hs' : List History) (js js' : List JournalRoom) (ts ts' : List ℕ) (last : ℕ) (items : List (ℕ × SessionNow)) (net mid : NetState) (n : SessionNo) (r : Step) (s a : SessionNow)
     (x : Stepped config n.0 (sessions_of items) s a (around_with hs ts net) (around_with hs' ts' mid) r) (under : AreUnderTheirs items) (has : HasSessions (worker_now t config hs js ts last (sessions_of items)))
     (journals : JournalsStay most_marks js js') where
-
   number : a.number.0 ≡ n.0
   number = after_number t config hs hs' js js' ts ts' last (sessions_of items) net mid n.0 r s a x has
 
@@ -148,7 +147,6 @@ module _ {S : Type 0} (h : S → History) (f : S → JournalRoom) (t : ThreadNo)
     (net mid : NetState) (n : SessionNo) (r : Step) (s a : SessionNow) (before : xs ≡ ys) (turns : ts ≡ us) (behind : xs' ≡ ys') (turns' : ts' ≡ us') (value : Some s ≡ value_of items n.0)
     (ensures : StepEnsures config s a (around_with (map h xs) ts net) (around_with (map h xs') ts' mid) r) (rooms : JournalsStay most_marks (map f xs) (map f xs'))
     (under : AreUnderTheirs items) (has : HasSessions (worker_now t config (map h ys) (map f ys) us last (sessions_of items))) where
-
   made : Stepped config n.0 (sessions_of items) s a (around_with (map h ys) us net) (around_with (map h ys') us' mid) r
   made =
       let there : session_of (sessions_of items) n.0 ≡ Some s = sym (value_is items n.0 under) ∙ sym value in

@@ -1,5 +1,5 @@
 -- What a worker ends as, where a `&mut` to one of its seats is returned.
-use Rattle.std.specs.Prelude.{ℕ, List, [], slice_set}
+use Rattle.std.specs.Prelude.{ℕ, [], slice_set}
 use Rattle.std.specs.Borrow.{Lends, Fml, RattleType, MutBor}
 use mir.Syntax.{named}
 use Rattle.hx_link.specs.declared.link.Link.{Ghosts as LinkGhosts}

@@ -1,4 +1,4 @@
-use Rattle.std.proofs.Common.{◌<◌, List, length, map, sym, ◌∙◌, subst, arith}
+use Rattle.std.proofs.Common.{◌<◌, List, length, sym, ◌∙◌, subst}
 use Rattle.std.proofs.lemmas.List.{with_items_is}
 use Rattle.std.specs.Vec.{with_items}
 use Rattle.hx_config.specs.Views.{meaning}
@@ -16,8 +16,10 @@ order_seats-requires g c =
     let seats = subst HasSeats (sym c.self.view_is) c.requires.seats in
     let server = (ordered_server c.args.what).0 in
     let low = subst (λ (w : WorkerNow). server < length (all_servers w.config.backs)) (sym c.self.view_is) c.requires.there in
-    record { there = subst (λ (l : List g.row.S.Denot). server < length l) (sym c.as_mut_slice.ensures.value)
-        (subst (λ n. server < n) (sym (seats_count S.history i.thread i.seats.items (all_servers i.config.now.backs) seats.serve)) low) }
+    record {
+      there = subst (λ (l : List g.row.S.Denot). server < length l) (sym c.as_mut_slice.ensures.value)
+          (subst (λ n. server < n) (sym (seats_count S.history i.thread i.seats.items (all_servers i.config.now.backs) seats.serve)) low);
+    }
 
 -- what the caretaker did, of the seats that the worker has
 done : (g : _) (c : goal.After-self-1 g)

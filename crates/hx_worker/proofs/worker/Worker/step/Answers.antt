@@ -1,4 +1,4 @@
-use Rattle.std.proofs.Common.{◌≡◌, ℕ, List, map, length, sym, ap, ◌∙◌, subst, IsSome}
+use Rattle.std.proofs.Common.{◌≡◌, List, map, sym, ap, ◌∙◌, subst, IsSome}
 use Rattle.std.proofs.lemmas.List.{with_items_is}
 use Rattle.std.specs.Option.{option_copied_mut}
 use Rattle.std.specs.Vec.{with_items}
@@ -29,11 +29,11 @@ pub step-step-requires : goal.step-step-requires
 step-step-requires g c =
     let i = c.self.inside in let h = g.S.HasHistory.history in let s : SessionNow = c.in-Some.session.now in
     let w : WorkerNow = worker_now i.thread (meaning i.config.now) (map h i.seats.items)
-        (map (room_of g.S.HasHistory.kept_from g.S.HasHistory.spare) i.seats.items) i.turns.items i.last (sessions_of i.sessions.items) in
+    (map (room_of g.S.HasHistory.kept_from g.S.HasHistory.spare) i.seats.items) i.turns.items i.last (sessions_of i.sessions.items) in
     let m = may_call w c.args.n.0 (g.N.Net.state c.args.net.now).loop_no s
-        (subst HasSeats (sym c.self.view_is) c.requires.seats) c.self.invariant.has
-        (sym (value_is i.sessions.items c.args.n.0 c.self.invariant.under) ∙ sym c.in-Some.ensures.value)
-        (subst (λ (v : WorkerNow). (g.N.Net.state c.args.net.now).loop_no ≡ v.thread.0) (sym c.self.view_is) c.requires.net) in
+    (subst HasSeats (sym c.self.view_is) c.requires.seats) c.self.invariant.has
+    (sym (value_is i.sessions.items c.args.n.0 c.self.invariant.under) ∙ sym c.in-Some.ensures.value)
+    (subst (λ (v : WorkerNow). (g.N.Net.state c.args.net.now).loop_no ≡ v.thread.0) (sym c.self.view_is) c.requires.net) in
     record {
       going = λ over. m.going;
       turns = subst (λ l. TurnsFit (meaning i.config.now) l) (sym c.as_mut_slice-2.ensures.value) c.self.invariant.has.turns;
@@ -113,7 +113,7 @@ returns-in-Some-remove-clause-seats g c = (off g c).seats (subst HasSeats (sym c
 pub returns-in-Nothing : goal.returns-in-Nothing
 returns-in-Nothing g c = record {
   steps = subst (λ (v : WorkerNow). Steps v (worker_now c.self.inside.thread (meaning c.self.inside.config.now) (map g.S.HasHistory.history (with_items c.self.inside.seats c.step-step.new.seats).items)
-    (map (room_of g.S.HasHistory.kept_from g.S.HasHistory.spare) (with_items c.self.inside.seats c.step-step.new.seats).items) (with_items c.self.inside.turns c.step-step.new.turns).items c.self.inside.last (sessions_of (with_value c.self.inside.sessions.items c.args.n.0 c.step-step.new.self)))
+      (map (room_of g.S.HasHistory.kept_from g.S.HasHistory.spare) (with_items c.self.inside.seats c.step-step.new.seats).items) (with_items c.self.inside.turns c.step-step.new.turns).items c.self.inside.last (sessions_of (with_value c.self.inside.sessions.items c.args.n.0 c.step-step.new.self)))
       (g.N.Net.state c.args.net.now) (g.N.Net.state c.step-step.new.net) c.args.n c.step-step.result) c.self.view_is (on g c).steps;
   seats = (on g c).seats (subst HasSeats (sym c.self.view_is) c.requires.seats);
 }

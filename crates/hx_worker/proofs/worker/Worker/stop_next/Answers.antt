@@ -1,19 +1,18 @@
-use Rattle.std.proofs.Common.{arith, ◌≡◌, ℕ, List, [], length, map, sym, ap, ◌∙◌, subst, refl, Some, None}
+use Rattle.std.proofs.Common.{arith, ◌≡◌, List, map, sym, ap, ◌∙◌, subst, Some}
 use Rattle.std.proofs.lemmas.List.{with_items_is}
 use Rattle.std.specs.Vec.{with_items}
 use Rattle.hx_config.specs.Views.{meaning}
-use Rattle.hx_pool.specs.SeatView.{History}
 use Rattle.hx_connecting.specs.Journals.{room_of}
 use Rattle.hx_connecting.specs.Sessions.{SessionNow}
 use Rattle.hx_connecting.specs.Touches.{most_marks}
 use Rattle.hx_session.specs.Fits.{FitsSome}
 use Rattle.hx_connecting.specs.Holds.{HoldsAt}
-use Rattle.hx_worker.specs.Workers.{WorkerNow, worker_now, HasSeats, HasSessions}
+use Rattle.hx_worker.specs.Workers.{WorkerNow, worker_now, HasSeats}
 use Rattle.hx_worker.specs.Listed.{sessions_of}
-use Rattle.hx_worker.specs.Stops.{StopsNext, TakesLeast}
+use Rattle.hx_worker.specs.Stops.{StopsNext}
 use Rattle.hx_worker.proofs.Items.{above_all}
 use Rattle.hx_worker.proofs.Keeping.{MayCall, may_stop}
-use Rattle.hx_worker.proofs.Stepping.{StopDone, StopEnsures, least_first, least_may, stop_done, stop_size, settled_stop, settled_rooms}
+use Rattle.hx_worker.proofs.Stepping.{StopDone, least_first, least_may, stop_done, stop_size, settled_stop, settled_rooms}
 use Rattle.hx_worker.proofs.worker.Worker.stop_next.Goals as goal
 use Rattle.hx_worker.proofs.worker.Worker.stop_next.Goals.{After-bury}
 
@@ -29,7 +28,7 @@ may : (g : _) (c : goal.After-stop-arg-1 g)
 may g c =
     let i = c.self.inside in let s : SessionNow = c.in-Some.session in
     let w : WorkerNow = worker_now i.thread (meaning i.config.now) (map g.S.HasHistory.history i.seats.items)
-        (map (room_of g.S.HasHistory.kept_from g.S.HasHistory.spare) i.seats.items) i.turns.items i.last (sessions_of i.sessions.items) in
+    (map (room_of g.S.HasHistory.kept_from g.S.HasHistory.spare) i.seats.items) i.turns.items i.last (sessions_of i.sessions.items) in
     let first = least_first i.sessions.items c.take_least.new.sessions.items s c.in-Some.ensures in
     least_may w s (sessions_of c.take_least.new.sessions.items) (g.N.Net.state c.args.net.now).loop_no (ap sessions_of first.1)
     (subst HasSeats (sym c.self.view_is) c.requires.seats) c.self.invariant.has
@@ -39,7 +38,7 @@ pub stop-served-requires : goal.stop-served-requires
 stop-served-requires g c =
     let i = c.self.inside in let h = g.S.HasHistory.history in let s : SessionNow = c.in-Some.session in
     let w : WorkerNow = worker_now i.thread (meaning i.config.now) (map h i.seats.items)
-        (map (room_of g.S.HasHistory.kept_from g.S.HasHistory.spare) i.seats.items) i.turns.items i.last (sessions_of i.sessions.items) in
+    (map (room_of g.S.HasHistory.kept_from g.S.HasHistory.spare) i.seats.items) i.turns.items i.last (sessions_of i.sessions.items) in
     let m = may g c in record {
       fits = subst (λ (l : List g.row.S.Denot). FitsSome s (map h l)) (sym c.as_mut_slice.ensures.value)
           (may_stop w s.number.0 (g.N.Net.state c.args.net.now).loop_no s i.config.now.within.numbered m);

@@ -1,4 +1,4 @@
-use Rattle.std.proofs.Common.{◌≤◌, List, length, map, sym, ◌∙◌, subst, arith}
+use Rattle.std.proofs.Common.{◌≤◌, List, length, sym, ◌∙◌, subst}
 use Rattle.std.proofs.lemmas.List.{with_items_is}
 use Rattle.std.specs.Vec.{with_items}
 use Rattle.hx_config.specs.Views.{meaning}
@@ -14,8 +14,10 @@ pub tick_seats-requires : goal.tick_seats-requires
 tick_seats-requires g c =
     let S = g.S.HasHistory in let i = c.self.inside in
     let seats = subst HasSeats (sym c.self.view_is) c.requires.seats in
-    record { few = subst (λ (l : List g.row.S.Denot). length l ≤ 32) (sym c.as_mut_slice.ensures.value)
-        (seats_few S.history i.thread i.seats.items (all_servers i.config.now.backs) seats.serve i.config.now.within.servers_in) }
+    record {
+      few = subst (λ (l : List g.row.S.Denot). length l ≤ 32) (sym c.as_mut_slice.ensures.value)
+          (seats_few S.history i.thread i.seats.items (all_servers i.config.now.backs) seats.serve i.config.now.within.servers_in);
+    }
 
 -- what the caretaker did, of the seats that the worker has
 done : (g : _) (c : goal.After-self-1 g)
