@@ -1,0 +1,7 @@
+pub mod ByNumber
+pub mod Items
+pub mod Owners
+pub mod Keeping
+pub mod Stepping
+pub mod Caring
+pub mod Coming

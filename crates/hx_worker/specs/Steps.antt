@@ -1,0 +1,57 @@
+-- What a caller learns of a worker's step.
+use Rattle.std.specs.Prelude.{◌≡◌, ◌==◌, ◌≤◌, if◌then◌else◌, Bool, true, false, List, [], ◌∷◌, length, Some, None}
+use Rattle.hx_base.specs.declared.numbers.SessionNo.{SessionNo}
+use Rattle.hx_link.specs.Told.{LinkState}
+use Rattle.hx_link.specs.Nets.{NetState}
+use Rattle.hx_pool.specs.declared.entries.Note.{Note}
+use Rattle.hx_pool.specs.History.{marks_of}
+use Rattle.hx_caretaker.specs.Sweeps.{BuriesAll}
+use Rattle.hx_connecting.specs.Journals.{JournalsStay}
+use Rattle.hx_connecting.specs.Sessions.{SessionNow, Around, around_with}
+use Rattle.hx_connecting.specs.Touches.{most_marks}
+use Rattle.hx_session.specs.Kept.{IsSameStep}
+use Rattle.hx_session.specs.Marking.{AddsMarks}
+use Rattle.hx_session.specs.Telling.{StepTold}
+use Rattle.hx_session.specs.declared.step.Step.{Step}
+use Rattle.hx_session.specs.declared.step.Waits.TheVariants.{Ended}
+use Rattle.hx_worker.specs.Workers.{WorkerNow, Each, StaysWorker, session_of}
+
+-- at most so many marks are among the entries
+abbrev pub HasFewMarks : List Note → Type 0
+HasFewMarks es = length (marks_of es) ≤ most_marks
+
+-- what a session's step is: whose session it stays, which entries it made, server by server, what it told, and that it ended
+pub record SessionStep (s s' : SessionNow) (before after : Around) (r : Step) : Type 0 where
+  pub same : IsSameStep s s' before.seats after.seats before.net after.net
+  pub adds : AddsMarks s before.seats after.seats
+  pub few : Each HasFewMarks adds.added
+  pub tells : StepTold s s' r.left r.served
+  pub ended : (r.waits ≡ Ended → s'.over ≡ true) × (s'.over ≡ true → r.waits ≡ Ended)
+
+-- the session behind its step in place of that before; one that is over is gone
+abbrev pub placed : List SessionNow → SessionNow → List SessionNow
+placed [] s' = []
+placed (s ∷ sessions) s' =
+    if s.number.0 == s'.number.0 then (if s'.over then sessions else s' ∷ sessions) else s ∷ placed sessions s'
+
+-- the client's link of a session that ended is buried once, attached to no loop; the net is else as the session left it
+abbrev pub BuriesClient : Bool → LinkState → NetState → NetState → Type 0
+BuriesClient false client mid net = net ≡ mid
+BuriesClient true client mid net = (client.on_loop ≡ None) × BuriesAll (client ∷ []) mid net
+
+-- what is around a worker's sessions
+abbrev pub around_of : WorkerNow → NetState → Around
+around_of w net = around_with w.seats w.turns net
+
+-- the session of that number makes its step, and every other one is as it was
+pub record Steps (w w' : WorkerNow) (net net' : NetState) (n : SessionNo) (r : Step) : Type 0 where
+  pub stays : StaysWorker w w'
+  pub session : SessionNow
+  pub after : SessionNow
+  pub there : session_of w.sessions n.0 ≡ Some session
+  -- the net as the session left it
+  pub mid : NetState
+  pub step : SessionStep session after (around_of w net) (around_of w' mid) r
+  pub sessions : w'.sessions ≡ placed w.sessions after
+  pub buries : BuriesClient after.over after.client mid net'
+  pub journals : JournalsStay most_marks w.journals w'.journals

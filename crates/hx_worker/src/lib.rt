@@ -1,0 +1,8 @@
+//! The sessions of one thread: their clients are admitted, stepped and stopped, and the thread's seats are cared for.
+#![tactic(auto)]
+
+mod answers;
+mod worker;
+
+pub use answers::{NoEntry, Refused, Stopped};
+pub use worker::Worker;
