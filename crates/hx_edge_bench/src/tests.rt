@@ -19,6 +19,9 @@ const NOW: Millis = Millis(1);
 /// The first port that is tried. The machine gives none of these by itself.
 const FIRST_PORT: u16 = 21_000;
 
+/// How many are tried.
+const PORTS: u16 = 5000;
+
 /// A net, and both ends of a connection that it dialled at a door.
 #[derive(Drop)]
 struct Pair<R> {
@@ -35,9 +38,9 @@ fn at_port(port: u16) -> Address {
     }
 }
 
-/// Listens at a port that is free, and tells it.
-fn listen_somewhere<D: Door>(door: &mut D) -> Option<Address> {
-    for port in FIRST_PORT..FIRST_PORT + 5000 {
+/// Listens at a port that is free, from that one on, and tells it.
+fn listen_from<D: Door>(door: &mut D, first: u16) -> Option<Address> {
+    for port in first..first.saturating_add(PORTS) {
         if door.listen(3, &at_port(port)).is_ok() {
             return Some(at_port(port));
         }
@@ -58,7 +61,7 @@ fn next_client<D: Door<L = SockLink>>(door: &mut D) -> Option<(u16, SockLink)> {
 fn pair<R: std::net::Net + Drop + Copy>(rt: R, alloc: Global) -> Result<Pair<R>, Fail> {
     let mut net = SockNet::new(rt, alloc, ThreadNo(0), 64)?;
     let mut door = SockDoor::new(rt, alloc, Vec::new(alloc))?;
-    let there = listen_somewhere(&mut door).ok_or("no port is free")?;
+    let there = listen_from(&mut door, FIRST_PORT).ok_or("no port is free")?;
     let link = net.dial(ServerNo(0), &there, ConnId(1), NOW)?;
     let (_, peer) = next_client(&mut door).ok_or("no client came")?;
     Ok(Pair {

@@ -1,5 +1,5 @@
 //! Doors, wakes, files and the clock of the machine.
-use super::{NOW, listen_somewhere, next_client};
+use super::{FIRST_PORT, NOW, listen_from, next_client};
 use hx_base::{ConnId, Millis, ServerNo, ThreadNo};
 use hx_doors::{Accepted, Cabinet, Door, NoFile};
 use hx_link::{Clock, Got, Net, Source};
@@ -19,7 +19,7 @@ fn a_door_gives_each_client_once_with_its_front_and_wakes_a_net(
     let mut wakers = Vec::new(rt.alloc());
     wakers.push(net.waker()?)?;
     let mut door = SockDoor::new(&rt, rt.alloc(), wakers)?;
-    let there = listen_somewhere(&mut door).ok_or("no port is free")?;
+    let there = listen_from(&mut door, FIRST_PORT).ok_or("no port is free")?;
     for _ in 0..3 {
         let _link = net.dial(ServerNo(0), &there, ConnId(1), NOW)?;
         let client = next_client(&mut door);

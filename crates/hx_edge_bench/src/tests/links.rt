@@ -1,5 +1,5 @@
 //! Links over loopback.
-use super::{NOW, attach_for, listen_somewhere, pair, read_soon, settle};
+use super::{FIRST_PORT, NOW, PORTS, attach_for, listen_from, pair, read_soon, settle};
 use hx_base::{ConnId, Millis, ServerNo, SessionNo, ThreadNo};
 use hx_link::{Got, Link, Net, Put};
 use hx_proxy_parts::{SockDoor, SockNet};
@@ -34,7 +34,7 @@ fn the_end_of_a_closed_peer_is_told_once_and_again(rt: HostRuntime) -> Result<()
 #[test]
 fn a_refused_dial_is_a_fault_of_the_net_or_at_the_first_write(rt: HostRuntime) -> Result<(), Fail> {
     let mut door = SockDoor::new(&rt, rt.alloc(), Vec::new(rt.alloc()))?;
-    let there = listen_somewhere(&mut door).ok_or("no port is free")?;
+    let there = listen_from(&mut door, FIRST_PORT + PORTS).ok_or("no port is free")?;
     drop(door);
     let mut net = SockNet::new(&rt, rt.alloc(), ThreadNo(0), 64)?;
     if let Ok(mut link) = net.dial(ServerNo(0), &there, ConnId(1), NOW) {
