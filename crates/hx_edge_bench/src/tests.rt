@@ -24,7 +24,7 @@ const PORTS: u16 = 5000;
 
 /// A net, and both ends of a connection that it dialled at a door.
 #[derive(Drop)]
-struct Pair<R> {
+struct Connection<R> {
     net: SockNet<R>,
     there: Address,
     link: SockLink,
@@ -58,13 +58,13 @@ fn next_client<D: Door<L = SockLink>>(door: &mut D) -> Option<(u16, SockLink)> {
     None
 }
 
-fn pair<R: std::net::Net + Drop + Copy>(rt: R, alloc: Global) -> Result<Pair<R>, Fail> {
+fn connect<R: std::net::Net + Drop + Copy>(rt: R, alloc: Global) -> Result<Connection<R>, Fail> {
     let mut net = SockNet::new(rt, alloc, ThreadNo(0), 64)?;
     let mut door = SockDoor::new(rt, alloc, Vec::new(alloc))?;
     let there = listen_from(&mut door, FIRST_PORT).ok_or("no port is free")?;
     let link = net.dial(ServerNo(0), &there, ConnId(1), NOW)?;
     let (_, peer) = next_client(&mut door).ok_or("no client came")?;
-    Ok(Pair {
+    Ok(Connection {
         net,
         there,
         link,

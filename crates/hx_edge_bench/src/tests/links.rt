@@ -1,5 +1,5 @@
 //! Links over loopback.
-use super::{FIRST_PORT, NOW, PORTS, attach_for, listen_from, pair, read_soon, settle};
+use super::{FIRST_PORT, NOW, PORTS, attach_for, connect, listen_from, read_soon, settle};
 use hx_base::{ConnId, Millis, ServerNo, SessionNo, ThreadNo};
 use hx_link::{Got, Link, Net, Put};
 use hx_proxy_parts::{SockDoor, SockNet};
@@ -11,7 +11,7 @@ const ONE: SessionNo = SessionNo(7);
 
 #[test]
 fn the_end_of_a_closed_peer_is_told_once_and_again(rt: HostRuntime) -> Result<(), Fail> {
-    let mut pair = pair(&rt, rt.alloc())?;
+    let mut pair = connect(&rt, rt.alloc())?;
     let mut into = [0; 8];
     assert!(rt; attach_for(&mut pair.net, &mut pair.link, ONE));
     assert_eq!(rt; pair.peer.write(NOW, b"ab"), Put::Bytes(2));
@@ -49,7 +49,7 @@ fn a_refused_dial_is_a_fault_of_the_net_or_at_the_first_write(rt: HostRuntime) -
 
 #[test]
 fn a_link_that_is_detached_and_attached_keeps_its_bytes(rt: HostRuntime) -> Result<(), Fail> {
-    let mut pair = pair(&rt, rt.alloc())?;
+    let mut pair = connect(&rt, rt.alloc())?;
     let mut two = [0; 2];
     let mut into = [0; 8];
     assert!(rt; attach_for(&mut pair.net, &mut pair.link, ONE));
@@ -73,7 +73,7 @@ fn a_link_that_is_detached_and_attached_keeps_its_bytes(rt: HostRuntime) -> Resu
 fn a_peer_that_speaks_or_closes_while_a_link_rests_is_seen_by_the_next_probe(
     rt: HostRuntime,
 ) -> Result<(), Fail> {
-    let mut pair = pair(&rt, rt.alloc())?;
+    let mut pair = connect(&rt, rt.alloc())?;
     let mut byte = [0; 1];
     assert!(rt; attach_for(&mut pair.net, &mut pair.link, ONE));
     settle(&mut pair.net);
@@ -102,7 +102,7 @@ fn a_peer_that_speaks_or_closes_while_a_link_rests_is_seen_by_the_next_probe(
 
 #[test]
 fn a_send_buffer_that_is_full_is_told_and_its_room_reported(rt: HostRuntime) -> Result<(), Fail> {
-    let mut pair = pair(&rt, rt.alloc())?;
+    let mut pair = connect(&rt, rt.alloc())?;
     assert!(rt; attach_for(&mut pair.net, &mut pair.link, ONE));
     settle(&mut pair.net);
     let bytes = [7; 8192];
@@ -133,7 +133,7 @@ fn a_send_buffer_that_is_full_is_told_and_its_room_reported(rt: HostRuntime) -> 
 /// A system that closes a socket with bytes unread may drop what is on its way to the peer.
 #[test]
 fn what_was_sent_to_a_client_that_is_buried_unread_comes(rt: HostRuntime) -> Result<(), Fail> {
-    let mut pair = pair(&rt, rt.alloc())?;
+    let mut pair = connect(&rt, rt.alloc())?;
     let mut into = [0; 8];
     assert!(rt; attach_for(&mut pair.net, &mut pair.link, ONE));
     assert_eq!(rt; pair.link.write(NOW, &[7; 5000]), Put::Bytes(5000));

@@ -1,5 +1,5 @@
 //! Links that move between loops and threads.
-use super::{NOW, attach_for, pair, settle};
+use super::{NOW, attach_for, connect, settle};
 use hx_base::{Millis, SessionNo, ThreadNo};
 use hx_link::{Got, Link, Net, Put};
 use hx_proxy_parts::SockNet;
@@ -13,7 +13,7 @@ const TWO: SessionNo = SessionNo(9);
 
 #[test]
 fn a_link_that_another_loop_took_over_is_reported_there(rt: HostRuntime) -> Result<(), Fail> {
-    let mut pair = pair(&rt, rt.alloc())?;
+    let mut pair = connect(&rt, rt.alloc())?;
     let mut other = SockNet::new(&rt, rt.alloc(), ThreadNo(1), 64)?;
     let mut into = [0; 1];
     assert!(rt; attach_for(&mut pair.net, &mut pair.link, ONE));
@@ -48,7 +48,7 @@ fn a_link_that_another_loop_took_over_is_reported_there(rt: HostRuntime) -> Resu
 
 #[test]
 fn no_report_is_lost_for_a_link_that_is_with_another_thread(rt: HostRuntime) -> Result<(), Fail> {
-    let mut pair = pair(&rt, rt.alloc())?;
+    let mut pair = connect(&rt, rt.alloc())?;
     assert!(rt; attach_for(&mut pair.net, &mut pair.link, ONE));
     pair.net.detach(&mut pair.link);
     let mut net = pair.net;
