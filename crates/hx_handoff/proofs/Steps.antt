@@ -1,8 +1,9 @@
 -- Each step of a lane keeps its rule.
-use Rattle.std.proofs.Common.{◌≡◌, ◌≢◌, ℕ, List, [], ◌∷◌, ◌++◌, length, set, Some, None, All, ⊎_elim, sym, refl, ap, ◌∙◌, subst, append_assoc, arith}
+use Rattle.std.proofs.Common.{◌≡◌, ◌≢◌, ℕ, ◌<◌, ◌≤◌, List, [], ◌∷◌, ◌++◌, length, set, Some, None, All, ⊎_elim, sym, refl, ap, ◌∙◌, subst, append_assoc, arith}
 use mathlib.Core.Option.{some, some-ne-none}
 use lib.ListN.{get_elem?}
-use Rattle.std.proofs.lemmas.List.{append-nil}
+use Rattle.std.proofs.Math.Nat.{lt_of_not-le}
+use Rattle.std.proofs.lemmas.List.{append-nil, length-append}
 use Rattle.std.proofs.lemmas.List.Elements.{All-nil, All-push, All-weaker}
 use Rattle.crossbeam_queue.specs.Fifo.{Pushes, Pops, Forks, Merges, Learns}
 use Rattle.crossbeam_queue.proofs.Lists.{at_set}
@@ -13,7 +14,7 @@ use Rattle.hx_handoff.specs.declared.rule.Role.{Role}
 use Rattle.hx_handoff.specs.declared.rule.Role.TheVariants.{Taking, Giving, Spent}
 use Rattle.hx_handoff.specs.Lanes.{items_of, ended, Begins, IsInOrder, IsAllOf, HoldsLast}
 use Rattle.hx_handoff.specs.Rule.{Past, IsEnded, KnowsTaker, KnowsGiver, Knows, IsLane, spent_view, first_view, giver_view, after_cut, with_handed, with_collected, with_settled}
-use Rattle.hx_handoff.proofs.Changes.{none_is_some, same_some, at, at_here, at_else, by_cases, at_end, items_more, handed_on}
+use Rattle.hx_handoff.proofs.Changes.{none_is_some, same_some, at, at_here, at_else, by_cases, at_end, item_here, items_more, handed_on}
 
 nothing : {A : Type 0} (xs : List A) → length xs ≡ 0 → xs ≡ []
 nothing [] e = refl
@@ -96,8 +97,19 @@ module _ {T : Type 0} where
   others_collected past pass got taker j u apart Giving k = record { one = k.one; handed = k.handed }
   others_collected past pass got taker j u apart Spent k = k
 
+  -- an item that the lane holds is one of a giver that was cut off
+  of_giver : (past : Past T) (n : ℕ) (x : Handed T) (items : List (Handed T)) → ((g : ℕ) → items_of g (past.got ++ x ∷ items) ≡ past.sent g)
+      → ((g : ℕ) → n ≤ g → (past.seat g ≡ None) × (past.sent g ≡ [])) → x.giver < n
+  of_giver past n x items delivered later = lt_of_not-le (λ low.
+      let g = x.giver in
+      let none : items_of g (past.got ++ x ∷ items) ≡ [] = delivered g ∙ (later g low).1 in
+      let parts : items_of g (past.got ++ x ∷ items) ≡ items_of g past.got ++ x.item ∷ items_of g items =
+          items_more g past.got (x ∷ items) ∙ ap (λ l. items_of g past.got ++ l) (items_more g (x ∷ []) items ∙ ap (λ l. l ++ items_of g items) (item_here g x refl)) in
+      let size : length (items_of g past.got ++ x.item ∷ items_of g items) ≡ 0 = ap length (sym parts ∙ none) in
+      absurd (omega (arith, length-append (items_of g past.got) (x.item ∷ items_of g items))))
+
   pub collects : (pass : ℕ) (v : View T) → v.role ≡ Taking
-      → Pops IsLane pass v (λ x w. (w ≡ with_collected v x) × IsInOrder w.collected w.settled)
+      → Pops IsLane pass v (λ x w. (w ≡ with_collected v x) × IsInOrder w.collected w.settled × (x.giver < v.number))
   collects pass v takes x items views lane at_pass =
       let past = lane.past in
       let mine : KnowsTaker past pass v = knows (x ∷ items) views lane pass v Taking at_pass takes in
@@ -117,7 +129,7 @@ module _ {T : Type 0} where
               (λ (h : (j ≢ pass) × (get_elem? views j ≡ some u)). others_collected past pass got (sym mine.one) j u h.0 u.role (lane.each j u h.1))
               (at_set views pass j w u e);
         },
-        (refl, subst (λ l. IsInOrder l v.settled) (sym same) (in_order later got items v.settled delivered ended)),
+        (refl, subst (λ l. IsInOrder l v.settled) (sym same) (in_order later got items v.settled delivered ended), of_giver past v.number x items lane.delivered mine.later),
       )
 
   -- what the others know stays where the taker cuts off a giver

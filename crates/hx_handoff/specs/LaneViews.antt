@@ -44,3 +44,5 @@ module _ {T : Type 0} where
   pub record KeepsTaker (t : taker.Inside T) : Type 0 where
     pub seated : IsPassOf t.queue.now t.pass
     pub takes : (view t.pass).role ≡ Taking
+    -- it has cut off both givers
+    pub both : (view t.pass).number ≡ 2

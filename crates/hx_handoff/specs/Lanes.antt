@@ -1,5 +1,5 @@
 -- What contracts see of the ends of a lane.
-use Rattle.std.specs.Prelude.{◌≡◌, ℕ, ◌==◌, cond, List, [], ◌∷◌, ◌++◌, length, Option, Some, None, All}
+use Rattle.std.specs.Prelude.{◌≡◌, ℕ, ◌<◌, ◌==◌, cond, List, [], ◌∷◌, ◌++◌, length, Option, Some, None, All}
 use Rattle.std.specs.List.{filter_map}
 use Rattle.atomic_table.specs.Seated.{TableId}
 use Rattle.hx_handoff.specs.declared.rule.Handed.{Handed}
@@ -22,6 +22,10 @@ pub record TakerNow (T : Type 0) : Type 0 where
   pub collected : List (Handed T)
   -- the givers that have ended, each with all that it handed in
   pub settled : List (Settled T)
+
+-- the number is that of one of the two givers
+abbrev pub IsGiver : ℕ → Type 0
+IsGiver number = number < 2
 
 module _ {T : Type 0} where
   -- a giver that handed nothing in

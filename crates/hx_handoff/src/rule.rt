@@ -93,11 +93,11 @@ impl<T> Lesson<Handed<T>, View<T>> for Hand {
 pub(crate) struct Collect;
 
 impl<T> Outcome<Handed<T>, View<T>> for Collect {
-    ghost use Rattle.std.specs.Prelude.{◌≡◌};
+    ghost use Rattle.std.specs.Prelude.{◌≡◌, ◌<◌};
     ghost use Rattle.hx_handoff.specs.Lanes.{IsInOrder};
     ghost use Rattle.hx_handoff.specs.Rule.{with_collected};
 
-    ghost then = { λ v x w. (w ≡ with_collected v x) × IsInOrder w.collected w.settled };
+    ghost then = { λ v x w. (w ≡ with_collected v x) × IsInOrder w.collected w.settled × (x.giver < v.number) };
 }
 
 impl<T> Lesson<Handed<T>, View<T>> for Collect {

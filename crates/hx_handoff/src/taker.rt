@@ -28,7 +28,7 @@ impl<'a, T> Model for Taker<'a, T> {
 }
 
 impl<'a, T> Taker<'a, T> {
-    ghost use Rattle.hx_handoff.specs.Lanes.{new_taker, with_one, with_ended, IsInOrder, IsAllOf};
+    ghost use Rattle.hx_handoff.specs.Lanes.{new_taker, with_one, with_ended, IsGiver, IsInOrder, IsAllOf};
     ghost use Rattle.hx_handoff.specs.Rule.{first_view, after_cut};
 
     pub(crate) fn new(queue: &'a Queue<T>, pass: Pass<Handed<T>, View<T>>) -> Taker<'a, T>
@@ -43,7 +43,7 @@ impl<'a, T> Taker<'a, T> {
     pub fn collect<R: Wait>(&mut self, rt: &R) -> Option<T>
         ensures collected { MatchOption result
             (self.new ≡ self.old)
-            (λ x. (giver : ℕ) × (self.new ≡ with_one self.old giver x)) }
+            (λ x. (giver : ℕ) × IsGiver giver × (self.new ≡ with_one self.old giver x)) }
         ensures order { IsInOrder self.new.collected self.new.settled }
         ensures empty { IfNone result (IsAllOf self.old.collected self.old.settled) }
     {

@@ -101,16 +101,23 @@ impl SockLink {
         }
     }
 
-    /// Registers it nowhere. It keeps what was reported; the next loop reports what is ready as it is registered there.
-    pub(crate) fn leave(&mut self)
+    /// Registers it nowhere, and says whether the machine did. It keeps what was reported; the next loop reports what is
+    /// ready as it is registered there.
+    pub(crate) fn leave(&mut self) -> bool
         ensures same { self.new ≡ self.old }
     {
-        if let Some(registered) = self.registered.take() {
-            let _ = registered.reports.registry.deregister(&mut self.stream);
-            let seen = registered.take_bits(READ | WRITE);
-            self.may_read = self.may_read || seen & (READ | CLOSED) != 0;
-            self.may_write = self.may_write || seen & (WRITE | CLOSED) != 0;
-        }
+        let Some(registered) = self.registered.take() else {
+            return true;
+        };
+        let done = registered
+            .reports
+            .registry
+            .deregister(&mut self.stream)
+            .is_ok();
+        let seen = registered.take_bits(READ | WRITE);
+        self.may_read = self.may_read || seen & (READ | CLOSED) != 0;
+        self.may_write = self.may_write || seen & (WRITE | CLOSED) != 0;
+        done
     }
 
     /// Registers it there, and says whether the machine did.
@@ -151,13 +158,14 @@ impl SockLink {
     }
 
     /// Closes it. A client is told first that nothing more comes, and what it sent and nobody read is read away, since
-    /// the machine drops what is on its way to the peer of a connection that is closed with bytes unread.
-    pub(crate) fn close(self) {
+    /// the machine drops what is on its way to the peer of a connection that is closed with bytes unread. It says whether
+    /// the machine did.
+    pub(crate) fn close(self) -> bool {
         let mut link = self;
-        if link.opener == Opener::Peer && !link.ended && !link.broken {
-            let _ = link.stream.shutdown(Shutdown::Write);
-            read_away(&mut link.stream);
+        if link.opener == Opener::Proxy || link.ended || link.broken {
+            return true;
         }
+        link.stream.shutdown(Shutdown::Write).is_ok() && read_away(&mut link.stream)
     }
 
     /// Takes what was reported of reads, and says whether the peer closed.
@@ -217,15 +225,17 @@ impl SockLink {
     }
 }
 
-/// Reads away what is there, up to a limit.
-fn read_away(stream: &mut TcpStream) {
+/// Reads away what is there, up to a limit, and says whether the machine did.
+fn read_away(stream: &mut TcpStream) -> bool {
     let mut buffer = [0; 1024];
     for _ in 0..MOST_DRAINS {
         match stream.read(&mut buffer) {
-            Ok(n) if n > 0 => {}
-            _ => return,
+            Ok(0) => return true,
+            Ok(_) => {}
+            Err(error) => return error.kind() == ErrorKind::WouldBlock,
         }
     }
+    true
 }
 
 impl Link for SockLink {

@@ -132,7 +132,9 @@ impl<R: std::net::Net + Drop> SockNet<R> {
         ensures net { self.new ≡ self.old }
         ensures link { link.new ≡ link.old }
     {
-        link.leave();
+        if !link.leave() {
+            return false;
+        }
         let Some(token) = self.reports.take(self.cursor, self.session) else {
             return false;
         };
@@ -203,8 +205,9 @@ impl<R: std::net::Net + Drop> Net for SockNet<R> {
     }
 
     fn bury(&mut self, link: SockLink) {
-        let _here = self.thread;
-        link.close();
+        if !link.close() {
+            self.faults = self.faults.saturating_add(1);
+        }
     }
 
     fn attach_for(&mut self, session: SessionNo) {

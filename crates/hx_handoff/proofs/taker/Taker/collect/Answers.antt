@@ -16,6 +16,7 @@ returns-clause-collected g c =
     let e = c.in_ok-handed.ensures in
     let x = c.in_ok-handed.handed in (
       x.giver,
+      rw (← c.self.invariant.both) e.rule.2,
       rw (← c.self.view_is) (λ i. record {
         lane = e.queue.0 i;
         collected = (e.rule.0 i).collected;
