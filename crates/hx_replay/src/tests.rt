@@ -3,6 +3,7 @@ ghost use Rattle.std.specs.Prelude.{◌≡◌, IfOk};
 
 mod answers;
 mod boards;
+mod check;
 mod configs;
 mod configurations;
 mod connections;
@@ -11,9 +12,11 @@ mod framings;
 mod heads;
 mod links;
 mod modes;
+mod numbers;
 mod pipes;
 mod scripts;
 mod seats;
+mod totals;
 mod transcripts;
 
 use crate::replay_main;

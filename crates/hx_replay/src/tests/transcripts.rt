@@ -14,22 +14,22 @@ use std::test::Fail;
 
 /// What a transcript of one server, one client and one connection has.
 #[derive(Drop)]
-struct Parts {
-    rules: PoolRules,
-    marks: Vec<Entry>,
-    records: Vec<Told>,
-    client: (Bytes, Bytes),
-    conn: (Bytes, Bytes),
-    totals: Totals,
+pub(crate) struct Parts {
+    pub(crate) rules: PoolRules,
+    pub(crate) marks: Vec<Entry>,
+    pub(crate) records: Vec<Told>,
+    pub(crate) client: (Bytes, Bytes),
+    pub(crate) conn: (Bytes, Bytes),
+    pub(crate) totals: Totals,
 }
 
-fn bytes(alloc: Global, text: &[u8]) -> Result<Bytes, NoMemory>
+pub(crate) fn bytes(alloc: Global, text: &[u8]) -> Result<Bytes, NoMemory>
     ensures { IfOk result (λ b. b ≡ text.now) }
 {
     Ok(Items::from_vec(Vec::from_slice(alloc, text)?))
 }
 
-fn transcript(alloc: Global, parts: Parts) -> Result<Transcript, NoMemory>
+pub(crate) fn transcript(alloc: Global, parts: Parts) -> Result<Transcript, NoMemory>
     requires marks { All IsToldMark parts.marks.items }
     requires records { All (IsToldRecord 1) parts.records.items }
 {
