@@ -186,5 +186,7 @@ admission_from-append a [] ys = refl
 admission_from-append a (x ∷ xs) ys = admission_from-append (admission_after a x.entry) xs ys
 
 -- an Up after a Gate that shows ready
-pub gate_admits : (a b : PlaceView) (t u : ThreadNo) (old : ℕ) → Steps a b (plain (Gate t false) ∷ plain (Up u old) ∷ []) → admission_of b.view.mine ≡ Admitted
-gate_admits a b t u old k = ap admission_of k.mine ∙ admission_from-append Shut a.view.mine (plain (Gate t false) ∷ plain (Up u old) ∷ [])
+pub admits_behind : (a b : PlaceView) (xs : List Note) (t : ThreadNo) (old : ℕ) → Steps a b (xs ++ plain (Gate t false) ∷ plain (Up t old) ∷ []) → admission_of b.view.mine ≡ Admitted
+admits_behind a b xs t old k = ap admission_of k.mine
+    ∙ (admission_from-append Shut a.view.mine (xs ++ plain (Gate t false) ∷ plain (Up t old) ∷ [])
+    ∙ admission_from-append (admission_of a.view.mine) xs (plain (Gate t false) ∷ plain (Up t old) ∷ []))
