@@ -218,8 +218,8 @@ pub closes_none : (olds news : List History) (n : SessionNo) (held : Option Rest
 closes_none olds news n None net net' none k = k.0
 closes_none olds news n (Some r) net net' none k = cc
 
-pub busy_some : (b : BusyNow) → Some (seen.Exchanging b) ≡ None → (x : Option RestedNow) (olds news : List History) → (x ≡ None) × (news ≡ olds)
-busy_some b e x olds news = cc
+pub never_none : (b : BusyNow) → Some (seen.Exchanging b) ≡ None → (x : Option RestedNow) (olds news : List History) → (x ≡ None) × (news ≡ olds)
+never_none b e x olds news = cc
 
 -- the part that takes the turn
 so_none : {X : Type 0} (servers : List Server) (turn turn' : ℕ) (s : StageNow) (olds : List History) (came : Came X) (news : List History) → turn' ≡ turn → Picks (conn_seen s) (chosen_seen s) olds came news

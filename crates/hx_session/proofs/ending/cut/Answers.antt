@@ -9,7 +9,7 @@ use Rattle.hx_session.specs.Desks.{desk_now, DeskNow}
 use Rattle.hx_session.specs.Exchanged.{exchange_now, ExchangeNow}
 use Rattle.hx_session.specs.declared.stage.Came.{Came}
 use Rattle.hx_session.specs.Ending.{EndsInCut}
-use Rattle.hx_session.proofs.PickLemmas.{busy_some}
+use Rattle.hx_session.proofs.PickLemmas.{never_none}
 use Rattle.hx_session.proofs.ending.cut.Goals as goal
 
 pub returns-clause-ends : goal.returns-clause-ends
@@ -37,4 +37,4 @@ returns-clause-goes g c =
     (cut_leaves d d1 d2 e c.args.cause c.cut_off-served.result olds news k.cuts is c.requires.set (k.around d.worker c.requires.set.around))
     (inr (record { touch = w.touch; may = inr refl; counts = tt; at = w.at; way = w.way }))
     (cut_told d d1 d2 e c.args.cause c.cut_off-served.result c.requires.ends k.cuts is)
-    (λ none. busy_some e.busy none _ _ _)
+    (λ none. never_none e.busy none _ _ _)
