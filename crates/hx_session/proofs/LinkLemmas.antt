@@ -1,12 +1,11 @@
 -- What a step and a stop do with links, as the worker sees it.
-use Rattle.std.proofs.Common.{◌≡◌, ◌≤◌, ℕ, ◌==◌, Bool, true, false, List, [], ◌∷◌, ◌++◌, refl, sym, ap, subst, ◌∙◌, inl, inr, arith, zero, suc, Option, Some, None}
+use Rattle.std.proofs.Common.{◌≡◌, ◌≤◌, ℕ, ◌==◌, Bool, true, false, List, [], ◌∷◌, refl, sym, ap, subst, ◌∙◌, zero, suc, Option, Some, None}
 use Rattle.std.specs.Prelude.{IfSome, slice_get, slice_set, if◌then◌else◌}
-use Rattle.hx_base.specs.declared.numbers.ServerNo.{ServerNo}
 use Rattle.hx_base.specs.declared.numbers.SessionNo.{SessionNo}
 use Rattle.hx_base.specs.declared.numbers.ThreadNo.{ThreadNo}
 use Rattle.hx_base.specs.declared.what.What.{What}
 use Rattle.hx_base.specs.declared.what.LinkTold.{LinkTold}
-use Rattle.hx_conn.specs.Conns.{RestedNow, BusyNow, IsBusy, IsRested}
+use Rattle.hx_conn.specs.Conns.{RestedNow, BusyNow, IsBusy}
 use Rattle.hx_conn.specs.WhatTold.{what_of_link}
 use Rattle.hx_link.specs.Nets.{NetState, OnlyFaults, TellsDial}
 use Rattle.hx_link.specs.Told.{LinkState}
@@ -19,16 +18,15 @@ use Rattle.hx_record.specs.declared.served.Kind.TheVariants as kind
 use Rattle.hx_record.specs.declared.served.Left.{Left as Leave}
 use Rattle.hx_record.specs.declared.served.LeftCause.{LeftCause}
 use Rattle.hx_record.specs.declared.served.Served.{Served}
-use Rattle.hx_connecting.specs.Adding.{AddsFor, SeatAdds, TouchesSeats, SomeTouches}
+use Rattle.hx_connecting.specs.Adding.{AddsFor}
 use Rattle.hx_connecting.specs.Around.{HasAround, resting}
-use Rattle.hx_connecting.specs.Closing.{AtSeat, ClosesAt, ClosesHeld, HasHeld}
+use Rattle.hx_connecting.specs.Closing.{ClosesAt, HasHeld}
 use Rattle.hx_connecting.specs.Holds.{HoldsAt}
 use Rattle.hx_connecting.specs.Exchanges.{CameGoes, PassedEnds}
 use Rattle.hx_connecting.specs.Links.{IsSameLink, TellsBefore}
 use Rattle.hx_pool.specs.Opening.{Closes}
 use Rattle.hx_connecting.specs.Sessions.{SessionNow, Around, Holding, Resting, Exchanging as OnConn, around_with, conn_link, conn_server, conn_id, is_first}
-use Rattle.hx_connecting.specs.Touches.{Touch, Came, Had, Opened, Took, Ends, marks_at, touch_marks, EachSeat, Adds}
-use Rattle.hx_connecting.specs.Wanted.{OpensWereWanted}
+use Rattle.hx_connecting.specs.Touches.{Touch, Came, Had, Opened, Took, Ends, marks_at, touch_marks}
 use Rattle.hx_connecting.specs.Ways.{NetStays, FitsRecord, StaysWith, WayAt, WayFor, SomeWay, stays_of, told_by}
 use Rattle.hx_connecting.proofs.AddedCalls.{had}
 use Rattle.hx_connecting.proofs.AddingLemmas.{nothing, adds_are, adds_ext, adds_no_touch, adds_touch, adds_wanted, holds_stand, seat_adds}
@@ -44,14 +42,13 @@ use Rattle.hx_session.specs.Doings.{Doing}
 use Rattle.hx_session.specs.Ending.{HasOwn}
 use Rattle.hx_session.specs.Linking.{StepLinks, StopLinks}
 use Rattle.hx_session.specs.Parting.{LetsGo, StopCloses, first_of}
-use Rattle.hx_session.specs.Records.{ItsExchange, KindStands, WhereTold, leaves_for, told_of}
+use Rattle.hx_session.specs.Records.{WhereTold, leaves_for, told_of}
 use Rattle.hx_session.specs.Seen.{conn_seen, session_seen}
 use Rattle.hx_session.specs.Stages.{StageNow, Reading, Choosing, Exchanging, Answering, Left}
-use Rattle.hx_session.specs.Standing.{KeepsOver}
-use Rattle.hx_session.specs.Steps.{StepTouches, doing}
-use Rattle.hx_session.specs.Stopping.{StopTouches, StopsConn, stopping, stopped_of}
-use Rattle.hx_session.specs.Telling.{KindTold, RecordTold, RecordsTold, conn_told, stopped}
-use Rattle.hx_session.specs.Touching.{Touches, TouchesOne, after_of}
+use Rattle.hx_session.specs.Steps.{doing}
+use Rattle.hx_session.specs.Stopping.{StopTouches, stopping, stopped_of}
+use Rattle.hx_session.specs.Telling.{KindTold, RecordsTold, conn_told, stopped}
+use Rattle.hx_session.specs.Touching.{Touches, after_of}
 
 -- the entries of a call at the seat that it changed
 entries_at : (hs : List History) (j : ℕ) (h : History) (es : List Note) → slice_get hs j ≡ Some h → slice_get (slice_set (nothing hs) j es) j ≡ Some es

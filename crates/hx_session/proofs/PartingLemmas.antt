@@ -1,5 +1,5 @@
 -- What the parts of a step touched, one behind another.
-use Rattle.std.specs.Prelude.{IfSome, [], ◌∷◌}
+use Rattle.std.specs.Prelude.{IfSome, []}
 use Rattle.std.proofs.Common.{◌≤◌, eqb, true, false, arith, eq-eqb, ne_eqb, ◌≡◌, ◌⊎◌, ℕ, ◌-◌, ◌==◌, Bool, List, refl, sym, ap, subst, ◌∙◌, inl, inr, Option, Some, None, ⊎_elim}
 use Rattle.std.proofs.lemmas.Bool.{eqb-true, eqb-false}
 use Rattle.hx_base.specs.declared.numbers.ThreadNo.{ThreadNo}

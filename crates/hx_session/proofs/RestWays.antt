@@ -11,7 +11,6 @@ use Rattle.hx_conn.specs.declared.exchange.AnswerEnd.{AnswerEnd}
 use Rattle.hx_link.specs.Nets.{NetState}
 use Rattle.hx_pool.specs.declared.entries.Note.{Note}
 use Rattle.hx_pool.specs.SeatView.{History}
-use Rattle.hx_record.specs.declared.served.Carried.{Carried}
 use Rattle.hx_record.specs.declared.served.Kind.{Kind}
 use Rattle.hx_record.specs.declared.served.Kind.TheVariants as kind
 use Rattle.hx_record.specs.declared.served.Served.{Served}
@@ -27,8 +26,6 @@ use Rattle.hx_session.specs.Desks.{DeskNow}
 use Rattle.hx_session.specs.Exchanged.{ExchangeNow}
 use Rattle.hx_session.specs.Over.{carried_of}
 use Rattle.hx_session.specs.Parting.{CameWay, RestsSo}
-use Rattle.hx_session.specs.Seen.{conn_seen}
-use Rattle.hx_session.specs.Stages.{stage_now}
 use Rattle.hx_session.specs.Standing.{GoesToHeld}
 use Rattle.hx_session.specs.Telling.{GivesPassed}
 use Rattle.hx_session.proofs.EndingLemmas.{passed_ends}

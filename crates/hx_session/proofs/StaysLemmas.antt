@@ -1,5 +1,5 @@
 -- An exchange that goes on, on the same connection, and what its link tells.
-use Rattle.std.proofs.Common.{◌≡◌, ℕ, Bool, List, refl, sym, ap, subst, ◌∙◌, Option, Some, None, ⊎_elim}
+use Rattle.std.proofs.Common.{◌≡◌, ℕ, Bool, List, refl, sym, ap, subst, ◌∙◌, Option, Some, None}
 use Rattle.std.specs.Prelude.{IfSome}
 use Rattle.hx_conn.specs.Conns.{RestedNow, BusyNow}
 use Rattle.hx_conn.specs.Steps.{WritesAsk, ReadsAnswer, ask_ended, answer_ended, after_call, is_failed_put, is_failed_got}

@@ -1,6 +1,6 @@
 -- What a step and a stop do at the seats and with links: the one connection that they touched and the way of its link, with dials and
 -- burials of the net; and that the record which they give is true of that link as it stands after the call.
-use Rattle.std.specs.Prelude.{◌≡◌, List, Option, Some}
+use Rattle.std.specs.Prelude.{List, Option, Some}
 use Rattle.hx_link.specs.Told.{LinkState}
 use Rattle.hx_pool.specs.declared.entries.Note.{Note}
 use Rattle.hx_record.specs.declared.served.Left.{Left}
