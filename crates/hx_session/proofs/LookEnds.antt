@@ -32,11 +32,12 @@ use Rattle.hx_session.specs.declared.exchange.AskWay.{AskWay}
 use Rattle.hx_session.specs.declared.exchange.BodyWay.{BodyWay}
 use Rattle.hx_session.specs.declared.exchange.AnswerWay.{AnswerWay}
 use Rattle.hx_session.specs.declared.exchange.AnswerWay.TheVariants.{Heads, Body}
-use Rattle.hx_session.specs.Answering.{CarriesAnswer}
+use Rattle.hx_session.specs.Answering.{CarriesAnswer, BreaksCarried}
 use Rattle.hx_session.specs.Carried.{IsCarried}
 use Rattle.hx_session.specs.Desks.{DeskNow}
 use Rattle.hx_session.specs.Exchanged.{ExchangeNow}
-use Rattle.hx_session.specs.Cutting.{BreaksHere, EndsBodyIn, EndsAnswerIn, Drops, DropsHeads, BreaksCarried, EndsAskAt, EndsAnswerFrom}
+use Rattle.hx_session.specs.Breaking.{BreaksHere}
+use Rattle.hx_session.specs.Cutting.{EndsBodyIn, EndsAnswerIn, Drops, DropsHeads, EndsAskAt, EndsAnswerFrom}
 use Rattle.hx_session.proofs.HeadEnds.{heads_none}
 use Rattle.hx_session.proofs.MessageEnds.{ask_ended, ask_cut, answer_ended, answer_none}
 
