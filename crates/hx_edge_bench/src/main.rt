@@ -18,8 +18,6 @@ use hx_doors::Door;
 use hx_link::Clock;
 use hx_proxy_parts::{MachineClock, SockDoor, SockNet};
 use settings::{Role, Settings, settings_of};
-use std::rt::Clock as _;
-use std::time::Duration;
 use std::{env, io};
 use turns::Turns;
 
@@ -62,8 +60,8 @@ fn serve(rt: &HostRuntime, settings: Settings) -> io::Result<()> {
     )
 }
 
-/// Dials all its connections and makes an exchange on each. Then it says so, waits a second, and goes on with those that aren't
-/// idle until its time is over.
+/// Dials all its connections and makes an exchange on each. Then it says so, waits for a line of standard input, and goes on
+/// with those that aren't idle until its time is over.
 fn load(rt: &HostRuntime, settings: Settings) -> io::Result<()> {
     let mut net = SockNet::new(rt, rt.alloc(), ThreadNo(0), ROOM)?;
     let mut turns = Turns::new(rt.alloc(), settings)?;
@@ -73,7 +71,8 @@ fn load(rt: &HostRuntime, settings: Settings) -> io::Result<()> {
         return println!(rt; "a connection failed");
     }
     println!(rt; "ready")?;
-    rt.sleep(Duration::from_millis(1000));
+    let mut line = String::new(rt.alloc());
+    rt.read_line(&mut line)?;
     let clock = MachineClock::new(rt);
     let exchanges = turns.ask_on(&clock, &mut net);
     let Millis(millis) = clock.now();

@@ -22,15 +22,6 @@ const FIRST_PORT: u16 = 21_000;
 /// How many are tried.
 const PORTS: u16 = 5000;
 
-/// A net, and both ends of a connection that it dialled at a door.
-#[derive(Drop)]
-struct Connection<R> {
-    net: SockNet<R>,
-    there: Address,
-    link: SockLink,
-    peer: SockLink,
-}
-
 fn at_port(port: u16) -> Address {
     Address {
         host: Host::Local,
@@ -58,18 +49,17 @@ fn next_client<D: Door<L = SockLink>>(door: &mut D) -> Option<(u16, SockLink)> {
     None
 }
 
-fn connect<R: std::net::Net + Drop + Copy>(rt: R, alloc: Global) -> Result<Connection<R>, Fail> {
+/// A net, and both ends of a connection that it dialled at a door: its link, and the client that the door gave.
+fn connect<R: std::net::Net + Drop + Copy>(
+    rt: R,
+    alloc: Global,
+) -> Result<(SockNet<R>, SockLink, SockLink), Fail> {
     let mut net = SockNet::new(rt, alloc, ThreadNo(0), 64)?;
     let mut door = SockDoor::new(rt, alloc, Vec::new(alloc))?;
     let there = listen_from(&mut door, FIRST_PORT).ok_or("no port is free")?;
     let link = net.dial(ServerNo(0), &there, ConnId(1), NOW)?;
     let (_, peer) = next_client(&mut door).ok_or("no client came")?;
-    Ok(Connection {
-        net,
-        there,
-        link,
-        peer,
-    })
+    Ok((net, link, peer))
 }
 
 /// Attaches a link for a session, and says whether it did.
