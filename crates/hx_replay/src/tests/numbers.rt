@@ -16,7 +16,10 @@ fn each_value_is_found_under_its_number(rt: HostRuntime) -> Result<(), Fail> {
         *value = 'd';
     }
     assert_eq!(rt; (all.remove(5), all.remove(5)), (Some('b'), None));
-    assert_eq!(rt; (all.len(), all.get(1), all.get(9)), (2, Some(&'a'), Some(&'d')));
+    assert_eq!(rt;
+        (all.len(), all.get(1), all.get(9)),
+        (2, Some(&'a'), Some(&'d'))
+    );
     assert_eq!(rt; all.number_above(1), Some(9));
     Ok(())
 }
