@@ -14,14 +14,14 @@ use Rattle.hx_resting.specs.Row.{fits}
 use Rattle.hx_rows.specs.declared.stays.Stay.{Stay}
 use Rattle.hx_rows.specs.Stays.{stay_at, NoneFits, BestFits, Pulls, Lists, RestsAt, IsBehind, AllBehind, AreInOrder, Follows}
 
-fit_true : (a b safe : Bool) → (a && cond safe b (not b)) ≡ true → (a ≡ true) × (b ≡ safe)
+pub fit_true : (a b safe : Bool) → (a && cond safe b (not b)) ≡ true → (a ≡ true) × (b ≡ safe)
 fit_true true true true e = (refl, refl)
 fit_true true true false e = absurd (cc)
 fit_true true false true e = absurd (cc)
 fit_true true false false e = (refl, refl)
 fit_true false b safe e = absurd (cc)
 
-fit_false : (a b safe : Bool) → a ≡ true → (a && cond safe b (not b)) ≡ false → b ≡ not safe
+pub fit_false : (a b safe : Bool) → a ≡ true → (a && cond safe b (not b)) ≡ false → b ≡ not safe
 fit_false true true true y e = absurd (cc)
 fit_false true true false y e = refl
 fit_false true false true y e = refl

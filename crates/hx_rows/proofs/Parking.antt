@@ -121,9 +121,9 @@ after_gate s0 s1 s2 xs d s looked r g =
 pub went_up : (count : ℕ) → WentUp count ≡ Settled → ⊥
 went_up count e = cc
 
-pub admits : (s0 s1 s2 s3 : PlaceView) (place : PlaceNo) (d : Bool) (count : ℕ) (max : Option ℕ) → Finds s0 s1 place → d ≡ false → Notes s1 s2 (plain (Gate s1.view.thread d)) → Notes s2 s3 (plain (Up s2.view.thread count))
+pub admits : (s0 s1 s2 s3 : PlaceView) (place : PlaceNo) (d : Bool) (count : ℕ) (max : Option ℕ) → IsAtRest s0 → Finds s0 s1 place → d ≡ false → Notes s1 s2 (plain (Gate s1.view.thread d)) → Notes s2 s3 (plain (Up s2.view.thread count))
     → max ≡ s3.view.terms.rules.max → IfSome max (λ m. count < m) → Admits s0 s3 place
-admits s0 s1 s2 s3 place d count max f off g u is room =
+admits s0 s1 s2 s3 place d count max r f off g u is room =
     let GU = gate_up s0 s1 s2 s3 f.looks d count f.steps off g u in
     let all = steps_both s0 s1 s3 f.looks (plain (Gate s0.view.thread false) ∷ plain (Up s0.view.thread count) ∷ []) f.steps GU in record {
       looks = f.looks;
@@ -134,6 +134,7 @@ admits s0 s1 s2 s3 place d count max f off g u is room =
       limit = subst (λ o. IfSome o (λ m. count < m)) (is ∙ ap (λ (b : BoardTerms). b.rules.max) all.terms) room;
       steps = all;
       vacant = known_steps s1 s3 (plain (Gate s0.view.thread false) ∷ plain (Up s0.view.thread count) ∷ []) (spot_no place) SeenVacant GU f.vacant;
+      turn_is = after_up s0 s1 s2 s3 f.looks d count f.steps f.looked r off g u;
     }
 
 pub shuts : (s0 s1 s2 : PlaceView) (place : PlaceNo) (d : Bool) → Finds s0 s1 place → d ≡ true → Notes s1 s2 (plain (Gate s1.view.thread d)) → IsShut s0 s2
@@ -286,13 +287,13 @@ can_take_back s0 s3 n f fine ne same = record {
 }
 
 -- from what a park's first steps leave
-pub may_rest : (s0 s3 : PlaceView) (place : PlaceNo) → IsAtRest s0 → (a : Admits s0 s3 place) → turn s3 ≡ record { due = WentUp a.count; call = AtEase } → MayRest s3 place
-may_rest s0 s3 place r a is = record {
+pub may_rest : (s0 s3 : PlaceView) (place : PlaceNo) → IsAtRest s0 → Admits s0 s3 place → MayRest s3 place
+may_rest s0 s3 place r a = record {
   count = a.count;
   own = (a.found.row ∙ ap (λ (u : ThreadNo). u.0) (sym a.steps.thread), a.found.inside);
   vacant = a.vacant;
   idle = a.steps.hand ∙ r.idle;
-  turn_is = is;
+  turn_is = a.turn_is;
   below = subst (λ o. IfSome o (λ m. a.count < m)) (ap (λ (b : BoardTerms). b.rules.max) (sym a.steps.terms)) a.limit;
   admitted = admits_behind s0 s3 a.looks s0.view.thread a.count a.steps;
 }

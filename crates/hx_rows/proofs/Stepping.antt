@@ -144,7 +144,7 @@ makes_of old new added p q s even = record {
 pub calls_of : (old new : PlaceView) (added : List Note) (p : Option ℕ) → Steps old new added → IsEven added → Calls (history_of old p) (history_of new p) added
 calls_of old new added p s even = record { makes = makes_of old new added p p s even; passed = refl }
 
-turn_from-append : (s : Turn) (xs ys : List Note) → turn_from s (xs ++ ys) ≡ turn_from (turn_from s xs) ys
+pub turn_from-append : (s : Turn) (xs ys : List Note) → turn_from s (xs ++ ys) ≡ turn_from (turn_from s xs) ys
 turn_from-append s [] ys = refl
 turn_from-append s (x ∷ xs) ys = turn_from-append (turn_after s x.entry) xs ys
 
@@ -152,7 +152,7 @@ turn_from-append s (x ∷ xs) ys = turn_from-append (turn_after s x.entry) xs ys
 pub turn_steps : (old new : PlaceView) (added : List Note) (s : Turn) → Steps old new added → turn old ≡ s → turn new ≡ turn_from s added
 turn_steps old new added s k is = ap turn_of k.mine ∙ (turn_from-append first_turn old.view.mine added ∙ ap (λ z. turn_from z added) is)
 
-looks_turn : (t : ThreadNo) (looks : List Note) → AllLooks t looks → turn_from first_turn looks ≡ first_turn
+pub looks_turn : (t : ThreadNo) (looks : List Note) → AllLooks t looks → turn_from first_turn looks ≡ first_turn
 looks_turn t [] l = refl
 looks_turn t (x ∷ xs) l = ap (λ (y : Note). turn_from (turn_after first_turn y.entry) xs) l.0.2 ∙ looks_turn t xs l.1
 

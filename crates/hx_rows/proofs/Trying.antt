@@ -180,7 +180,7 @@ module _ (s0 s1 s2 : PlaceView) (n : SessionNo) (first : Bool) (stays left : Lis
   pub row_took : IsRowOf left s2
   row_took =
       let gone = subst (λ (u : ThreadNo). IsGone s2 (place_of u.0 x.place) x.face) (sym took.thread) k.gone in
-      pulled_row s2 s0.view.terms.rules.mode first stays left x p (row_then s1 s2 (taking s1.view.thread n first place x.face k.count) stays k.steps (tt, tt, tt, tt) t.row) gone
+      pulled_row s2 s0.view.terms.rules.mode first stays left x p (row_then s1 s2 (taking s1.view.thread n first place x.face k.count) stays k.steps (tt, (tt, (tt, tt))) t.row) gone
 
   pub stands_took : Stands s2.view
   stands_took = took.one

@@ -70,6 +70,7 @@ pub record Admits (old new : PlaceView) (place : PlaceNo) : Type 0 where
   pub limit : IfSome old.view.terms.rules.max (λ m. count < m)
   pub steps : Steps old new (gated old.view.thread looks (plain (Up old.view.thread count) ∷ []))
   pub vacant : WasVacant new.view.mine place
+  pub turn_is : turn new ≡ record { due = WentUp count; call = AtEase }
 
 -- a place is vacant, and the server drains
 pub record IsShut (old new : PlaceView) : Type 0 where
