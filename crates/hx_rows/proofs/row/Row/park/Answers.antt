@@ -165,4 +165,4 @@ returns-in-Back-clause-row g c =
     let v = g.V.Faced.shows c.args.v in
     let s2 = c.rest_at.new.seat in
     let row = subst (λ (r : RowView). IsRowOf r.stays s0) (sym c.self.view_is) c.requires.row in
-    subst (λ zs. IsRowOf zs s2) (sym c.forget.ensures) (row_back s0 s1 s2 c.self.inside.stays c.args.n c.in-Ok.place v (g.V.Faced.shows c.in-Back.v) row c.in-Ok.ensures c.in-Back.ensures)
+    subst (λ zs. IsRowOf zs s2) (sym c.forget-in-Back.ensures) (row_back s0 s1 s2 c.self.inside.stays c.args.n c.in-Ok.place v (g.V.Faced.shows c.in-Back.v) row c.in-Ok.ensures c.in-Back.ensures)
