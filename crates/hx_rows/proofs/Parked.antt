@@ -1,11 +1,10 @@
 -- A park, in the words of the trait of all seats.
-use Rattle.std.proofs.Common.{◌≡◌, ◌≢◌, ◌⊎◌, inl, inr, ℕ, ◌+◌, ◌-◌, ◌<◌, ◌≤◌, Bool, true, false, List, [], ◌∷◌, ◌++◌, length, refl, sym, ap, ◌∙◌, subst, arith, append_assoc, Some}
+use Rattle.std.proofs.Common.{◌≡◌, ◌≢◌, inl, inr, ℕ, ◌-◌, ◌≤◌, true, false, List, [], ◌∷◌, ◌++◌, length, refl, sym, ap, ◌∙◌, subst, arith, append_assoc}
 use Rattle.std.proofs.lemmas.List.{append-nil, length-append}
 use Rattle.std.specs.Prelude.{Option}
 use Rattle.hx_base.specs.declared.numbers.ThreadNo.{ThreadNo}
 use Rattle.hx_base.specs.declared.numbers.SessionNo.{SessionNo}
 use Rattle.hx_base.specs.declared.numbers.PlaceNo.{PlaceNo}
-use Rattle.hx_base.specs.declared.numbers.Face.{Face}
 use Rattle.hx_base.specs.declared.rules.Mode.TheVariants as mode
 use Rattle.hx_base.specs.Shown.{Shown}
 use Rattle.hx_pool.specs.declared.board.BoardTerms.{BoardTerms}
@@ -15,20 +14,20 @@ use Rattle.hx_pool.specs.declared.entries.Note.{Note}
 use Rattle.hx_pool.specs.declared.refusals.NoPark.{NoPark}
 use Rattle.hx_pool.specs.declared.refusals.NoPark.TheVariants.{Never, NoneKept, RowFull, Draining, PoolFull}
 use Rattle.hx_pool.specs.Table.{empty_table}
-use Rattle.hx_pool.specs.History.{plain, own_of, marks_of, IsLegal, IsEven, EachStep, MeetsNeeds}
-use Rattle.hx_pool.specs.Held.{Has, hold, hold_from, hold_of}
+use Rattle.hx_pool.specs.History.{plain, marks_of, IsLegal, IsEven, MeetsNeeds}
+use Rattle.hx_pool.specs.Held.{hold}
 use Rattle.hx_pool.specs.Causes.{AllLooks, place_of}
 use Rattle.hx_pool.specs.SeatView.{Grows, Calls}
 use Rattle.hx_pool.specs.Taking.{taking}
-use Rattle.hx_pool.specs.Parking.{KeepsSome, Settles, CanPark, Parks, RefusesPark, parked, gated}
+use Rattle.hx_pool.specs.Parking.{KeepsSome, CanPark, Parks, RefusesPark, parked, gated}
 use Rattle.hx_pool.proofs.Histories.{even-append, marks_of-append, hold_from-append, EachStep-first}
 use Rattle.hx_pool.proofs.Calls.{looks_hold, looks_even, looks_marks}
 use Rattle.hx_places.specs.Turns.{first_turn, turn_from}
 use Rattle.hx_places.specs.Seats.{PlaceView, Stands, history_of}
 use Rattle.hx_resting.specs.Row.{RefusedByRules}
 use Rattle.hx_rows.specs.declared.stays.Stay.{Stay}
-use Rattle.hx_rows.specs.Stays.{stay_at, others_at, RestsAt, Follows}
-use Rattle.hx_rows.specs.Steps.{Steps, IsAtRest, Scans, Admits, IsShut, IsOverMax, Refuses, ParksAt, StaysAt, IsTakenAt, ComesBack, IsGone}
+use Rattle.hx_rows.specs.Stays.{stay_at, others_at, Follows}
+use Rattle.hx_rows.specs.Steps.{Steps, IsAtRest, Admits, Refuses, ParksAt, StaysAt, IsTakenAt, ComesBack, IsGone}
 use Rattle.hx_rows.specs.Row.{IsRowOf}
 use Rattle.hx_rows.proofs.Resting.{NoParks, no_parks_both, elsewhere}
 use Rattle.hx_rows.proofs.Following.{follows_more, follows_less, follows_parked}
@@ -165,16 +164,20 @@ module _ (s0 s1 s2 : PlaceView) (n : SessionNo) (place : PlaceNo) (v : Shown) (q
   }
 
   pub refuses_back : (w : Shown) → s0.view.terms.rules.mode ≢ mode.Never → KeepsSome s0.view.terms.rules → ComesBack s1 s2 n place v w → RefusesPark (history_of s0 q) (history_of s2 q) n v Draining
-  refuses_back w shares keeps k = (shares, keeps, inr (record {
-    looks = a.looks;
-    place = place;
-    count = a.count;
-    down = k.down;
-    looked = a.looked;
-    found = a.found;
-    limit = a.limit;
-    makes = calls_behind s0 s2 a.looks (back k.down) q (steps_back w k) a.looked refl;
-  }))
+  refuses_back w shares keeps k = (
+    shares,
+    keeps,
+    inr (record {
+      looks = a.looks;
+      place = place;
+      count = a.count;
+      down = k.down;
+      looked = a.looked;
+      found = a.found;
+      limit = a.limit;
+      makes = calls_behind s0 s2 a.looks (back k.down) q (steps_back w k) a.looked refl;
+    }),
+  )
 
   pub grows_stays : StaysAt s1 s2 n place v → Grows (history_of s0 q) (history_of s2 q) (Park t n v.face.id place v.face.uses ∷ [])
   grows_stays k = grows_of s0 s2 a.looks gate_false q (steps_false k) a.looked refl a.few (omega arith)
@@ -201,27 +204,39 @@ pub refuses : (s0 s1 : PlaceView) (n : SessionNo) (v : Shown) (why : NoPark) (q 
     → RefusesPark (history_of s0 q) (history_of s1 q) n v why
 refuses s0 s1 n v Never q shares keeps r = absurd r
 refuses s0 s1 n v NoneKept q shares keeps r = absurd r
-refuses s0 s1 n v RowFull q shares keeps r = (shares, keeps, record {
-  looks = record { looks = r.looks; looked = r.looked; makes = makes_of s0 s1 r.looks q q r.steps (looks_even s0.view.thread r.looks r.looked) };
-  passed = refl;
-  taken = r.taken;
-})
-refuses s0 s1 n v Draining q shares keeps r = (shares, keeps, inl (record {
-  looks = r.looks;
-  place = r.place;
-  looked = r.looked;
-  found = r.found;
-  makes = calls_behind s0 s1 r.looks (plain (Gate s0.view.thread true) ∷ []) q r.steps r.looked refl;
-}))
-refuses s0 s1 n v (PoolFull c) q shares keeps r = (shares, keeps, record {
-  looks = r.looks;
-  place = r.place;
-  down = r.down;
-  looked = r.looked;
-  found = r.found;
-  limit = r.limit;
-  makes = calls_behind s0 s1 r.looks (plain (Gate s0.view.thread false) ∷ plain (Up s0.view.thread c) ∷ plain (Down s0.view.thread r.down) ∷ []) q r.steps r.looked refl;
-})
+refuses s0 s1 n v RowFull q shares keeps r = (
+  shares,
+  keeps,
+  record {
+    looks = record { looks = r.looks; looked = r.looked; makes = makes_of s0 s1 r.looks q q r.steps (looks_even s0.view.thread r.looks r.looked) };
+    passed = refl;
+    taken = r.taken;
+  },
+)
+refuses s0 s1 n v Draining q shares keeps r = (
+  shares,
+  keeps,
+  inl (record {
+    looks = r.looks;
+    place = r.place;
+    looked = r.looked;
+    found = r.found;
+    makes = calls_behind s0 s1 r.looks (plain (Gate s0.view.thread true) ∷ []) q r.steps r.looked refl;
+  }),
+)
+refuses s0 s1 n v (PoolFull c) q shares keeps r = (
+  shares,
+  keeps,
+  record {
+    looks = r.looks;
+    place = r.place;
+    down = r.down;
+    looked = r.looked;
+    found = r.found;
+    limit = r.limit;
+    makes = calls_behind s0 s1 r.looks (plain (Gate s0.view.thread false) ∷ plain (Up s0.view.thread c) ∷ plain (Down s0.view.thread r.down) ∷ []) q r.steps r.looked refl;
+  },
+)
 
 pub grows_refused : (s0 s1 : PlaceView) (why : NoPark) (q : Option ℕ) → Refuses s0 s1 why → Grows (history_of s0 q) (history_of s1 q) []
 grows_refused s0 s1 Never q r = absurd r

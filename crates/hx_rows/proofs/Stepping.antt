@@ -1,12 +1,11 @@
 -- Steps, one after another, and what a thread owes and knows by them.
-use Rattle.std.proofs.Common.{◌≡◌, ◌≢◌, ℕ, ◌+◌, ◌<◌, ◌≤◌, Bool, true, false, cond, List, [], ◌∷◌, ◌++◌, length, refl, sym, ap, ◌∙◌, subst, arith, append_assoc, Option, Some, None, eq-eqb}
+use Rattle.std.proofs.Common.{◌≡◌, ℕ, Bool, false, cond, List, [], ◌∷◌, ◌++◌, refl, sym, ap, ◌∙◌, subst, append_assoc, Option, None, eq-eqb}
 use Rattle.std.proofs.lemmas.List.{append-nil, append_cancel_left}
 use Rattle.hx_base.specs.declared.numbers.ThreadNo.{ThreadNo}
 use Rattle.hx_base.specs.declared.numbers.SessionNo.{SessionNo}
 use Rattle.hx_base.specs.declared.numbers.PlaceNo.{PlaceNo}
 use Rattle.hx_base.specs.declared.numbers.Face.{Face}
 use Rattle.hx_base.specs.Shown.{Shown}
-use Rattle.hx_pool.specs.declared.entries.Found.{Found}
 use Rattle.hx_pool.specs.declared.entries.Found.TheVariants.{Empty}
 use Rattle.hx_pool.specs.declared.entries.Entry.TheVariants.{Free, Look, Gate, Up}
 use Rattle.hx_pool.specs.declared.entries.Note.{Note}
@@ -18,7 +17,6 @@ use Rattle.hx_pool.specs.SeatView.{IsOneHistory, Makes, Calls, about_of}
 use Rattle.hx_pool.specs.Taking.{taken}
 use Rattle.hx_pool.proofs.Histories.{own_of-append, hold_from-append}
 use Rattle.hx_places.specs.declared.view.View.{View}
-use Rattle.hx_places.specs.declared.view.Hand.{Hand}
 use Rattle.hx_places.specs.declared.view.Hand.TheVariants.{Idle}
 use Rattle.hx_places.specs.Turns.{Turn, first_turn, turn_of, turn_from, turn_after}
 use Rattle.hx_places.specs.Known.{Known, Unknown, SeenVacant, WasVacant, known_after, known_of, known_from}

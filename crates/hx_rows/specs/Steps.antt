@@ -7,8 +7,7 @@ use Rattle.hx_base.specs.PlaceWords.{IsFace}
 use Rattle.hx_base.specs.Shown.{Shown}
 use Rattle.hx_pool.specs.declared.entries.Found.{Found}
 use Rattle.hx_pool.specs.declared.entries.Found.TheVariants.{Resting}
-use Rattle.hx_pool.specs.declared.entries.Entry.{Entry}
-use Rattle.hx_pool.specs.declared.entries.Entry.TheVariants.{Park, Look, Up, Down, Gate}
+use Rattle.hx_pool.specs.declared.entries.Entry.TheVariants.{Look, Up, Down, Gate}
 use Rattle.hx_pool.specs.declared.entries.Note.{Note}
 use Rattle.hx_pool.specs.declared.refusals.NoPark.{NoPark}
 use Rattle.hx_pool.specs.declared.refusals.NoPark.TheVariants.{RowFull, Draining, PoolFull}

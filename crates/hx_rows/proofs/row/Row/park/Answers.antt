@@ -1,15 +1,13 @@
-use Rattle.std.proofs.Common.{◌≢◌, false, [], ◌∷◌, ◌++◌, None, refl, sym, ap, ◌∙◌, subst}
-use Rattle.hx_base.specs.declared.numbers.ThreadNo.{ThreadNo}
+use Rattle.std.proofs.Common.{◌≢◌, false, [], ◌∷◌, ◌++◌, None, sym, ap, ◌∙◌, subst}
 use Rattle.hx_base.specs.declared.numbers.Face.{Face}
 use Rattle.hx_base.specs.declared.rules.PoolRules.{PoolRules}
 use Rattle.hx_base.specs.declared.rules.Mode.TheVariants as mode
 use Rattle.hx_pool.specs.declared.entries.Entry.TheVariants.{Park, Take}
 use Rattle.hx_pool.specs.declared.refusals.NoPark.TheVariants.{Draining}
-use Rattle.hx_pool.specs.SeatView.{Grows, last_list}
+use Rattle.hx_pool.specs.SeatView.{Grows}
 use Rattle.hx_pool.specs.Parking.{KeepsSome}
 use Rattle.hx_pool.proofs.Calls.{refused_still}
 use Rattle.hx_places.specs.Seats.{history_of}
-use Rattle.hx_rows.specs.declared.stays.Stay.{Stay}
 use Rattle.hx_rows.specs.Row.{RowView, IsRowOf}
 use Rattle.hx_rows.specs.Stays.{stay_at, others_at}
 use Rattle.hx_rows.proofs.Parking.{may_rest}

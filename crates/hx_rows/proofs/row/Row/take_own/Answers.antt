@@ -5,8 +5,6 @@ use Rattle.hx_pool.specs.declared.entries.Entry.TheVariants.{Take}
 use Rattle.hx_pool.specs.Causes.{place_of}
 use Rattle.hx_pool.specs.SeatView.{Grows, last_list}
 use Rattle.hx_places.specs.Seats.{history_of, IsOwn, IsOfBoard}
-use Rattle.hx_places.specs.Asks.{IsInTurn}
-use Rattle.hx_rows.specs.declared.stays.Stay.{Stay}
 use Rattle.hx_rows.specs.Row.{RowView, IsRowOf}
 use Rattle.hx_rows.specs.Stays.{NoneFits, Pulls}
 use Rattle.hx_rows.specs.Steps.{Gets, Loses}
