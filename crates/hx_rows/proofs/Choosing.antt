@@ -1,27 +1,23 @@
 -- Which stay a request likes best, and that nothing is left for it.
-use Rattle.std.proofs.Common.{◌≡◌, ◌⊎◌, inl, inr, ⊎_elim, ℕ, ◌≤◌, ◌<◌, Bool, true, false, cond, List, [], ◌∷◌, ◌++◌, refl, sym, ap, ◌∙◌, subst, arith}
+use Rattle.std.proofs.Common.{◌≡◌, ◌⊎◌, inl, inr, ⊎_elim, ℕ, ◌≤◌, Bool, true, false, cond, List, [], ◌∷◌, ◌++◌, refl, sym, ap, ◌∙◌, subst, arith}
 use Rattle.std.specs.Prelude.{not, ◌&&◌}
-use Rattle.hx_base.specs.declared.numbers.Face.{Face}
 use Rattle.hx_base.specs.declared.rules.Mode.{Mode}
 use Rattle.hx_pool.specs.declared.entries.Note.{Note}
-use Rattle.hx_pool.specs.Table.{Holds, spot_at}
-use Rattle.hx_pool.specs.History.{table_after}
 use Rattle.hx_pool.specs.Rules.{allows}
-use Rattle.hx_pool.specs.Causes.{place_of}
 use Rattle.hx_pool.specs.SeatView.{History}
-use Rattle.hx_pool.specs.Taking.{is_safe, is_preferred, last_park, IsBest, NoneRestsIn}
+use Rattle.hx_pool.specs.Taking.{is_safe, last_park, IsBest, NoneRestsIn}
 use Rattle.hx_resting.specs.Row.{fits}
 use Rattle.hx_rows.specs.declared.stays.Stay.{Stay}
-use Rattle.hx_rows.specs.Stays.{stay_at, NoneFits, BestFits, Pulls, Lists, RestsAt, IsBehind, AllBehind, AreInOrder, Follows}
+use Rattle.hx_rows.specs.Stays.{stay_at, NoneFits, Pulls, Lists, RestsAt, IsBehind, AllBehind, AreInOrder, Follows}
 
-fit_true : (a b safe : Bool) → (a && cond safe b (not b)) ≡ true → (a ≡ true) × (b ≡ safe)
+pub fit_true : (a b safe : Bool) → (a && cond safe b (not b)) ≡ true → (a ≡ true) × (b ≡ safe)
 fit_true true true true e = (refl, refl)
 fit_true true true false e = absurd (cc)
 fit_true true false true e = absurd (cc)
 fit_true true false false e = (refl, refl)
 fit_true false b safe e = absurd (cc)
 
-fit_false : (a b safe : Bool) → a ≡ true → (a && cond safe b (not b)) ≡ false → b ≡ not safe
+pub fit_false : (a b safe : Bool) → a ≡ true → (a && cond safe b (not b)) ≡ false → b ≡ not safe
 fit_false true true true y e = absurd (cc)
 fit_false true true false y e = refl
 fit_false true false true y e = refl

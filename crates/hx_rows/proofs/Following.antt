@@ -1,16 +1,15 @@
 -- The stays of a row, while its thread parks, takes and looks.
-use Rattle.std.proofs.Common.{◌≡◌, ◌≢◌, ◌⊎◌, inl, inr, ⊎_elim, ℕ, ◌+◌, ◌*◌, ◌≤◌, ◌<◌, eqb, Bool, true, false, cond, List, [], ◌∷◌, ◌++◌, length, refl, sym, ap, ◌∙◌, subst, arith, ne_eqb, eq-eqb}
+use Rattle.std.proofs.Common.{◌≡◌, ◌≢◌, ◌⊎◌, inl, inr, ⊎_elim, ℕ, ◌+◌, ◌≤◌, eqb, cond, List, [], ◌∷◌, ◌++◌, length, refl, sym, ap, ◌∙◌, subst, arith, ne_eqb, eq-eqb}
 use Rattle.std.proofs.lemmas.Bool.{cases_eq, cond_both}
 use Rattle.hx_base.specs.declared.numbers.ThreadNo.{ThreadNo}
 use Rattle.hx_base.specs.declared.numbers.SessionNo.{SessionNo}
 use Rattle.hx_base.specs.declared.numbers.PlaceNo.{PlaceNo}
 use Rattle.hx_base.specs.declared.numbers.Face.{Face}
 use Rattle.hx_base.specs.Shown.{Shown}
-use Rattle.hx_pool.specs.declared.entries.Entry.{Entry}
 use Rattle.hx_pool.specs.declared.entries.Entry.TheVariants.{Park}
 use Rattle.hx_pool.specs.declared.entries.Note.{Note}
-use Rattle.hx_pool.specs.Table.{Table, Holds, ParkNeeds, spot_at, spot_no, face_of, IsInRow, empty_table}
-use Rattle.hx_pool.specs.History.{table_after, EachStep, MeetsNeeds, IsLegal}
+use Rattle.hx_pool.specs.Table.{Table, Holds, ParkNeeds, spot_at, spot_no, empty_table}
+use Rattle.hx_pool.specs.History.{table_after, MeetsNeeds, IsLegal}
 use Rattle.hx_pool.specs.Causes.{place_of}
 use Rattle.hx_pool.specs.Taking.{park_after, park_from, last_park}
 use Rattle.hx_pool.specs.Parking.{parked}
@@ -18,7 +17,7 @@ use Rattle.hx_pool.proofs.Histories.{EachStep-first, EachStep-second}
 use Rattle.hx_pool.proofs.Tables.{put_same, put_other, sound_at}
 use Rattle.hx_pool.proofs.Rows.{AllElsewhere}
 use Rattle.hx_rows.specs.declared.stays.Stay.{Stay}
-use Rattle.hx_rows.specs.Stays.{stay_at, NoneAt, others_at, Lists, RestsAt, IsBehind, AllBehind, AreInOrder, Follows}
+use Rattle.hx_rows.specs.Stays.{stay_at, NoneAt, others_at, Lists, RestsAt, AllBehind, AreInOrder, Follows}
 use Rattle.hx_rows.proofs.Resting.{table_more, rested_then, keeps_then, park_from-append}
 
 -- the list is only looked through, and nothing was parked in the row

@@ -4,3 +4,6 @@ pub mod Stepping
 pub mod Listing
 pub mod Taking
 pub mod Parking
+pub mod Choosing
+pub mod Trying
+pub mod Parked

@@ -1,5 +1,5 @@
 -- Lists of stays: one is taken out, one is put in, and there are no more than a row has places.
-use Rattle.std.proofs.Common.{◌≡◌, ◌≢◌, ℕ, zero, suc, ◌+◌, ◌<◌, ◌≤◌, eqb, Bool, true, false, cond, List, [], ◌∷◌, ◌++◌, length, refl, sym, ap, ◌∙◌, subst, arith, get_or, take, drop, map, ne_eqb, eq-eqb}
+use Rattle.std.proofs.Common.{◌≡◌, ◌≢◌, ℕ, suc, ◌+◌, ◌<◌, ◌≤◌, eqb, Bool, true, false, cond, List, [], ◌∷◌, ◌++◌, length, refl, sym, ap, ◌∙◌, subst, arith, get_or, take, drop, map, ne_eqb, eq-eqb}
 use Rattle.std.proofs.lemmas.List.{take-append-drop, drop_more, length-take-le, length-map, length-append}
 use Rattle.std.proofs.lemmas.Map.Steps.{length-le_from_distinct_below}
 use Rattle.std.proofs.lemmas.Bool.{cond_both, eqb-true}
@@ -9,7 +9,7 @@ use Rattle.std.specs.List.{IsDistinct, AllByRecursion}
 use Rattle.hx_base.specs.declared.rules.Mode.{Mode}
 use Rattle.hx_base.specs.PlaceWords.{IsFace}
 use Rattle.hx_rows.specs.declared.stays.Stay.{Stay}
-use Rattle.hx_rows.specs.Stays.{NoneAt, AreApart, others_at, IsAt, BestFits, Pulls}
+use Rattle.hx_rows.specs.Stays.{NoneAt, AreApart, others_at, BestFits, Pulls}
 
 -- a list, cut at an index
 pub cut : (xs : List Stay) (i : ℕ) (d : Stay) → i < length xs → xs ≡ take i xs ++ get_or xs i d ∷ drop (i + 1) xs
@@ -81,7 +81,6 @@ none_here p (x ∷ xs) =
       | false ↦ λ e. ((λ same. let y = eq-eqb x.place p same in let z = sym y ∙ e in cc), none_here p xs)
     ] in
     go (eqb x.place p) refl
-
 
 distinct_head : (p : ℕ) (xs : List Stay) → NoneAt p xs → AllByRecursion (λ y. eqb p y ≡ false) (map (λ (x : Stay). x.place) xs)
 distinct_head p [] n = tt

@@ -1,11 +1,10 @@
 -- The steps of a park: looks for a vacant place, the drain state, the count, and the Park with what follows it.
-use Rattle.std.proofs.Common.{◌≡◌, ◌≢◌, ◌⊎◌, inl, inr, ⊎_elim, ℕ, ◌+◌, ◌-◌, ◌<◌, ◌≤◌, Bool, true, false, cond, List, [], ◌∷◌, ◌++◌, length, refl, sym, ap, ◌∙◌, subst, arith, append_assoc, Some, IfSome, eq-eqb}
-use Rattle.std.proofs.lemmas.List.{append-nil, length-append}
+use Rattle.std.proofs.Common.{◌≡◌, ◌≢◌, inl, inr, ⊎_elim, ℕ, ◌+◌, ◌<◌, ◌≤◌, Bool, true, false, List, [], ◌∷◌, ◌++◌, refl, sym, ap, ◌∙◌, subst, arith, append_assoc, Some, IfSome}
+use Rattle.std.proofs.lemmas.List.{length-append}
 use Rattle.std.proofs.lemmas.Bool.{cases_eq}
 use Rattle.std.specs.Prelude.{Option}
 use Rattle.hx_base.specs.declared.numbers.ThreadNo.{ThreadNo}
 use Rattle.hx_base.specs.declared.numbers.SessionNo.{SessionNo}
-use Rattle.hx_base.specs.declared.numbers.ServerNo.{ServerNo}
 use Rattle.hx_base.specs.declared.numbers.PlaceNo.{PlaceNo}
 use Rattle.hx_base.specs.declared.numbers.Face.{Face}
 use Rattle.hx_base.specs.declared.rules.Mode.{Mode}
@@ -19,11 +18,11 @@ use Rattle.hx_pool.specs.declared.entries.Found.TheVariants.{Empty, Resting}
 use Rattle.hx_pool.specs.declared.entries.Entry.{Entry}
 use Rattle.hx_pool.specs.declared.entries.Entry.TheVariants.{Look, Up, Down, Gate}
 use Rattle.hx_pool.specs.declared.entries.Note.{Note}
-use Rattle.hx_pool.specs.Table.{Table, Holds, spot_at, spot_no, face_of, IsInRow}
+use Rattle.hx_pool.specs.Table.{Table, Holds, spot_at, spot_no}
 use Rattle.hx_pool.specs.History.{plain, own_of, table_after, what_of, IsLegal}
 use Rattle.hx_pool.specs.Rules.{allows}
 use Rattle.hx_pool.specs.Causes.{Among, AllLooks, ShowsTaken, place_of}
-use Rattle.hx_pool.specs.Parking.{FindsVacant, parked, gated}
+use Rattle.hx_pool.specs.Parking.{parked}
 use Rattle.hx_pool.specs.Taking.{taken, taking}
 use Rattle.hx_pool.proofs.Histories.{own_of-append, EachStep-first}
 use Rattle.hx_pool.specs.History.{MeetsNeeds}
@@ -31,11 +30,10 @@ use Rattle.hx_pool.specs.Table.{empty_table}
 use Rattle.hx_pool.proofs.Tables.{put_same}
 use Rattle.hx_pool.proofs.Rows.{AllElsewhere}
 use Rattle.hx_places.specs.declared.view.View.{View}
-use Rattle.hx_places.specs.declared.view.Hand.TheVariants.{Idle}
-use Rattle.hx_places.specs.Turns.{Turn, WentUp, Settled, AtEase, HasParked, FoundDrain, first_turn, gate_after, IsBelow}
+use Rattle.hx_places.specs.Turns.{Turn, WentUp, Settled, AtEase, HasParked, first_turn, gate_after}
 use Rattle.hx_places.specs.Known.{SeenVacant}
-use Rattle.hx_places.specs.Asks.{Admitted, CanTake, IsInTurn, MayReadGate, MayTry}
-use Rattle.hx_places.specs.Seats.{PlaceView, turn, claiming_at, IsOwn, Notes, Publishes}
+use Rattle.hx_places.specs.Asks.{CanTake, IsInTurn, MayTry}
+use Rattle.hx_places.specs.Seats.{PlaceView, turn, claiming_at, Notes, Publishes}
 use Rattle.hx_places.proofs.Laws.{holds_face}
 use Rattle.hx_rows.specs.Steps.{Steps, IsAtRest, Scans, Finds, Admits, IsShut, IsOverMax, MayRest, Gets, Loses, ParksAt, StaysAt, IsTakenAt, ComesBack, IsGone}
 use Rattle.hx_rows.proofs.Resting.{NoParks, elsewhere, keeps_then, table_more}
@@ -121,9 +119,9 @@ after_gate s0 s1 s2 xs d s looked r g =
 pub went_up : (count : ℕ) → WentUp count ≡ Settled → ⊥
 went_up count e = cc
 
-pub admits : (s0 s1 s2 s3 : PlaceView) (place : PlaceNo) (d : Bool) (count : ℕ) (max : Option ℕ) → Finds s0 s1 place → d ≡ false → Notes s1 s2 (plain (Gate s1.view.thread d)) → Notes s2 s3 (plain (Up s2.view.thread count))
+pub admits : (s0 s1 s2 s3 : PlaceView) (place : PlaceNo) (d : Bool) (count : ℕ) (max : Option ℕ) → IsAtRest s0 → Finds s0 s1 place → d ≡ false → Notes s1 s2 (plain (Gate s1.view.thread d)) → Notes s2 s3 (plain (Up s2.view.thread count))
     → max ≡ s3.view.terms.rules.max → IfSome max (λ m. count < m) → Admits s0 s3 place
-admits s0 s1 s2 s3 place d count max f off g u is room =
+admits s0 s1 s2 s3 place d count max r f off g u is room =
     let GU = gate_up s0 s1 s2 s3 f.looks d count f.steps off g u in
     let all = steps_both s0 s1 s3 f.looks (plain (Gate s0.view.thread false) ∷ plain (Up s0.view.thread count) ∷ []) f.steps GU in record {
       looks = f.looks;
@@ -134,6 +132,7 @@ admits s0 s1 s2 s3 place d count max f off g u is room =
       limit = subst (λ o. IfSome o (λ m. count < m)) (is ∙ ap (λ (b : BoardTerms). b.rules.max) all.terms) room;
       steps = all;
       vacant = known_steps s1 s3 (plain (Gate s0.view.thread false) ∷ plain (Up s0.view.thread count) ∷ []) (spot_no place) SeenVacant GU f.vacant;
+      turn_is = after_up s0 s1 s2 s3 f.looks d count f.steps f.looked r off g u;
     }
 
 pub shuts : (s0 s1 s2 : PlaceView) (place : PlaceNo) (d : Bool) → Finds s0 s1 place → d ≡ true → Notes s1 s2 (plain (Gate s1.view.thread d)) → IsShut s0 s2
@@ -246,10 +245,10 @@ module _ (s0 s2 : PlaceView) (n : SessionNo) (place : PlaceNo) (v : Shown) (may 
       let same2 : s2.view.thread ≡ t = parks.thread in
       let same3 : s3.view.thread ≡ t = G.thread ∙ parks.thread in
       let own : own_of t more ≡ plain (Gate t true) ∷ [] =
-          own_of-append t G.between k.between ∙ (λ i. (ap (λ (u : ThreadNo). own_of u G.between) (sym same2) ∙ gained s2 s3 (plain (Gate t true) ∷ []) G) i ++ (ap (λ (u : ThreadNo). own_of u k.between) (sym same3) ∙ k.others) i) in
+      own_of-append t G.between k.between ∙ (λ i. (ap (λ (u : ThreadNo). own_of u G.between) (sym same2) ∙ gained s2 s3 (plain (Gate t true) ∷ []) G) i ++ (ap (λ (u : ThreadNo). own_of u k.between) (sym same3) ∙ k.others) i) in
       let apart : AllElsewhere place.row more = subst (λ r. AllElsewhere r more) (sym may.own.0) (elsewhere t more (subst NoParks (sym own) (tt, tt))) in
       let stands : spot_at (table_after (s2.view.seen ++ more)) place ≡ Holds v.face =
-          ap (λ (l : List Note). spot_at (table_after l) place) (sym at) ∙ (k.there.stood ∙ ap Holds (k.face ∙ is)) in
+      ap (λ (l : List Note). spot_at (table_after l) place) (sym at) ∙ (k.there.stood ∙ ap Holds (k.face ∙ is)) in
       let kept = (keeps_then s2.view.seen more place v.face may.own.1 apart legal stands).1 in
       let some : Some w.what ≡ Some v.what = sym k.there.what ∙ (ap (λ (i : Face). what_of (s3.view.seen ++ k.between) i.id.0) (k.face ∙ is) ∙ (ap (λ (l : List Note). what_of l v.face.id.0) at ∙ (kept ∙ told))) in
       some_is w.what v.what some
@@ -286,13 +285,13 @@ can_take_back s0 s3 n f fine ne same = record {
 }
 
 -- from what a park's first steps leave
-pub may_rest : (s0 s3 : PlaceView) (place : PlaceNo) → IsAtRest s0 → (a : Admits s0 s3 place) → turn s3 ≡ record { due = WentUp a.count; call = AtEase } → MayRest s3 place
-may_rest s0 s3 place r a is = record {
+pub may_rest : (s0 s3 : PlaceView) (place : PlaceNo) → IsAtRest s0 → Admits s0 s3 place → MayRest s3 place
+may_rest s0 s3 place r a = record {
   count = a.count;
   own = (a.found.row ∙ ap (λ (u : ThreadNo). u.0) (sym a.steps.thread), a.found.inside);
   vacant = a.vacant;
   idle = a.steps.hand ∙ r.idle;
-  turn_is = is;
+  turn_is = a.turn_is;
   below = subst (λ o. IfSome o (λ m. a.count < m)) (ap (λ (b : BoardTerms). b.rules.max) (sym a.steps.terms)) a.limit;
   admitted = admits_behind s0 s3 a.looks s0.view.thread a.count a.steps;
 }

@@ -1,6 +1,6 @@
 -- What rests in a row, while its thread does not park there: it rested there before, and its last Park and what stood beside
 -- that are as they were.
-use Rattle.std.proofs.Common.{◌≡◌, ◌≢◌, ℕ, ◌+◌, ◌≤◌, ◌<◌, eqb, Bool, true, false, cond, List, [], ◌∷◌, ◌++◌, length, refl, sym, ap, ◌∙◌, subst, arith, ne_eqb, eq-eqb, Option}
+use Rattle.std.proofs.Common.{◌≡◌, ◌≢◌, ℕ, ◌+◌, eqb, Bool, true, false, cond, List, [], ◌∷◌, ◌++◌, length, refl, sym, ap, ◌∙◌, arith, ne_eqb, eq-eqb, Option}
 use Rattle.hx_base.specs.declared.numbers.ThreadNo.{ThreadNo}
 use Rattle.hx_base.specs.declared.numbers.PlaceNo.{PlaceNo}
 use Rattle.hx_base.specs.declared.numbers.Face.{Face}
@@ -8,8 +8,8 @@ use Rattle.hx_base.specs.declared.what.What.{What}
 use Rattle.hx_pool.specs.declared.entries.Entry.{Entry}
 use Rattle.hx_pool.specs.declared.entries.Entry.TheVariants.{Open, Park, Take, Free, Close, Look, Up, Down, Count, Gate, SetGate, Round}
 use Rattle.hx_pool.specs.declared.entries.Note.{Note}
-use Rattle.hx_pool.specs.Table.{Table, Holds, IdleAt, spot_at, IsInRow, Needs, after_entry, after, empty_table}
-use Rattle.hx_pool.specs.History.{thread_of, is_by, own_of, table_from, table_after, EachStep, MeetsNeeds, IsLegal}
+use Rattle.hx_pool.specs.Table.{Table, Holds, spot_at, IsInRow, Needs, after_entry, after, empty_table}
+use Rattle.hx_pool.specs.History.{thread_of, own_of, table_from, table_after, EachStep, MeetsNeeds, IsLegal}
 use Rattle.hx_pool.specs.Taking.{park_after, park_from, last_park}
 use Rattle.hx_pool.proofs.Histories.{table_from-append, EachStep-first, EachStep-second}
 use Rattle.hx_pool.proofs.Tables.{put_other, Sound, sound_at, sound_after}

@@ -1,12 +1,11 @@
 -- Steps, one after another, and what a thread owes and knows by them.
-use Rattle.std.proofs.Common.{◌≡◌, ◌≢◌, ℕ, ◌+◌, ◌<◌, ◌≤◌, Bool, true, false, cond, List, [], ◌∷◌, ◌++◌, length, refl, sym, ap, ◌∙◌, subst, arith, append_assoc, Option, Some, None, eq-eqb}
+use Rattle.std.proofs.Common.{◌≡◌, ℕ, Bool, false, cond, List, [], ◌∷◌, ◌++◌, refl, sym, ap, ◌∙◌, subst, append_assoc, Option, None, eq-eqb}
 use Rattle.std.proofs.lemmas.List.{append-nil, append_cancel_left}
 use Rattle.hx_base.specs.declared.numbers.ThreadNo.{ThreadNo}
 use Rattle.hx_base.specs.declared.numbers.SessionNo.{SessionNo}
 use Rattle.hx_base.specs.declared.numbers.PlaceNo.{PlaceNo}
 use Rattle.hx_base.specs.declared.numbers.Face.{Face}
 use Rattle.hx_base.specs.Shown.{Shown}
-use Rattle.hx_pool.specs.declared.entries.Found.{Found}
 use Rattle.hx_pool.specs.declared.entries.Found.TheVariants.{Empty}
 use Rattle.hx_pool.specs.declared.entries.Entry.TheVariants.{Free, Look, Gate, Up}
 use Rattle.hx_pool.specs.declared.entries.Note.{Note}
@@ -18,7 +17,6 @@ use Rattle.hx_pool.specs.SeatView.{IsOneHistory, Makes, Calls, about_of}
 use Rattle.hx_pool.specs.Taking.{taken}
 use Rattle.hx_pool.proofs.Histories.{own_of-append, hold_from-append}
 use Rattle.hx_places.specs.declared.view.View.{View}
-use Rattle.hx_places.specs.declared.view.Hand.{Hand}
 use Rattle.hx_places.specs.declared.view.Hand.TheVariants.{Idle}
 use Rattle.hx_places.specs.Turns.{Turn, first_turn, turn_of, turn_from, turn_after}
 use Rattle.hx_places.specs.Known.{Known, Unknown, SeenVacant, WasVacant, known_after, known_of, known_from}
@@ -144,7 +142,7 @@ makes_of old new added p q s even = record {
 pub calls_of : (old new : PlaceView) (added : List Note) (p : Option ℕ) → Steps old new added → IsEven added → Calls (history_of old p) (history_of new p) added
 calls_of old new added p s even = record { makes = makes_of old new added p p s even; passed = refl }
 
-turn_from-append : (s : Turn) (xs ys : List Note) → turn_from s (xs ++ ys) ≡ turn_from (turn_from s xs) ys
+pub turn_from-append : (s : Turn) (xs ys : List Note) → turn_from s (xs ++ ys) ≡ turn_from (turn_from s xs) ys
 turn_from-append s [] ys = refl
 turn_from-append s (x ∷ xs) ys = turn_from-append (turn_after s x.entry) xs ys
 
@@ -152,7 +150,7 @@ turn_from-append s (x ∷ xs) ys = turn_from-append (turn_after s x.entry) xs ys
 pub turn_steps : (old new : PlaceView) (added : List Note) (s : Turn) → Steps old new added → turn old ≡ s → turn new ≡ turn_from s added
 turn_steps old new added s k is = ap turn_of k.mine ∙ (turn_from-append first_turn old.view.mine added ∙ ap (λ z. turn_from z added) is)
 
-looks_turn : (t : ThreadNo) (looks : List Note) → AllLooks t looks → turn_from first_turn looks ≡ first_turn
+pub looks_turn : (t : ThreadNo) (looks : List Note) → AllLooks t looks → turn_from first_turn looks ≡ first_turn
 looks_turn t [] l = refl
 looks_turn t (x ∷ xs) l = ap (λ (y : Note). turn_from (turn_after first_turn y.entry) xs) l.0.2 ∙ looks_turn t xs l.1
 

@@ -1,5 +1,5 @@
 -- A take at an own place, or a try that is lost.
-use Rattle.std.proofs.Common.{◌≡◌, ◌≢◌, ℕ, Bool, List, [], ◌∷◌, ◌++◌, refl, sym, ap, ◌∙◌, subst, append_assoc}
+use Rattle.std.proofs.Common.{◌≡◌, ℕ, Bool, List, [], ◌∷◌, ◌++◌, refl, sym, ap, ◌∙◌, subst, append_assoc}
 use Rattle.hx_base.specs.declared.numbers.ThreadNo.{ThreadNo}
 use Rattle.hx_base.specs.declared.numbers.SessionNo.{SessionNo}
 use Rattle.hx_base.specs.declared.numbers.PlaceNo.{PlaceNo}
@@ -9,14 +9,14 @@ use Rattle.hx_pool.specs.declared.entries.Found.{Found}
 use Rattle.hx_pool.specs.declared.entries.Entry.TheVariants.{Free, Look, Down}
 use Rattle.hx_pool.specs.declared.entries.Note.{Note}
 use Rattle.hx_pool.specs.Table.{Table, Spot, Vacant, Holds, spot_at, spot_no, found_of, IsInRow, empty_table}
-use Rattle.hx_pool.specs.History.{plain, own_of, table_after, EachStep, MeetsNeeds, IsLegal}
+use Rattle.hx_pool.specs.History.{plain, table_after, MeetsNeeds, IsLegal}
 use Rattle.hx_pool.specs.Taking.{taken}
 use Rattle.hx_pool.proofs.Histories.{EachStep-second}
 use Rattle.hx_pool.proofs.Tables.{put_same}
 use Rattle.hx_pool.proofs.Rows.{AllElsewhere}
 use Rattle.hx_places.specs.declared.view.View.{View}
 use Rattle.hx_places.specs.declared.view.Hand.TheVariants.{Idle}
-use Rattle.hx_places.specs.Turns.{Turn, Due, Settled, HasTaken, AtEase, first_turn}
+use Rattle.hx_places.specs.Turns.{Turn, Due, Settled, HasTaken, AtEase}
 use Rattle.hx_places.specs.Seats.{PlaceView, turn, IsOwn, Notes, TakesAt, Misses}
 use Rattle.hx_rows.specs.declared.stays.Stay.{Stay}
 use Rattle.hx_rows.specs.Stays.{Follows}
@@ -74,7 +74,7 @@ took_gone s0 s1 n first place f g v t h =
     let H : List Note = t.middle.seen ++ c.between in
     let free : Note = plain (Free s0.view.thread place) in
     let vacant : spot_at (table_after s1.view.seen) place ≡ Vacant = ap (λ (x : View). spot_at (table_after x.seen) place) c.view
-        ∙ (ap (λ (T : Table). spot_at T place) (table_more H free) ∙ put_same (table_after H).spots (spot_no place) Vacant (spot_no place) refl) in
+    ∙ (ap (λ (T : Table). spot_at T place) (table_more H free) ∙ put_same (table_after H).spots (spot_no place) Vacant (spot_no place) refl) in
     vacant_holds g (sym vacant ∙ h)
 
 pub gets : (s0 s1 s2 : PlaceView) (n : SessionNo) (first : Bool) (place : PlaceNo) (f : Face) (v : Shown) (count : ℕ) → IsOwn s0 place → s0.view.hand ≡ Idle

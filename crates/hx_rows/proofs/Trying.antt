@@ -1,6 +1,6 @@
 -- Takes from the own row: what was tried, and the take.
-use Rattle.std.proofs.Common.{◌≡◌, ◌≢◌, ⊎_elim, ℕ, ◌+◌, ◌<◌, ◌≤◌, Bool, true, false, List, [], ◌∷◌, ◌++◌, length, refl, sym, ap, ◌∙◌, subst, arith, append_assoc, Some}
-use Rattle.std.proofs.lemmas.List.{length-append, append-nil}
+use Rattle.std.proofs.Common.{◌≡◌, ℕ, ◌+◌, ◌<◌, ◌≤◌, Bool, true, false, List, [], ◌∷◌, ◌++◌, length, refl, sym, ap, ◌∙◌, subst, arith, append_assoc}
+use Rattle.std.proofs.lemmas.List.{length-append}
 use Rattle.std.specs.Prelude.{Option}
 use native.Mathlib.Decide.{dec_lt}
 use mathlib.Core.Logic.{dite}
@@ -14,8 +14,8 @@ use Rattle.hx_pool.specs.declared.board.BoardTerms.{BoardTerms}
 use Rattle.hx_pool.specs.declared.entries.Found.{Found}
 use Rattle.hx_pool.specs.declared.entries.Entry.TheVariants.{Look, Take}
 use Rattle.hx_pool.specs.declared.entries.Note.{Note}
-use Rattle.hx_pool.specs.Table.{Holds, spot_at, spot_no, empty_table}
-use Rattle.hx_pool.specs.History.{plain, own_of, table_after, what_of, IsLegal, IsEven, EachStep, MeetsNeeds}
+use Rattle.hx_pool.specs.Table.{Holds, spot_at, empty_table}
+use Rattle.hx_pool.specs.History.{plain, table_after, what_of, IsLegal, IsEven, MeetsNeeds}
 use Rattle.hx_pool.specs.Rules.{allows}
 use Rattle.hx_pool.specs.Causes.{AllLooks, place_of}
 use Rattle.hx_pool.specs.SeatView.{Grows, Makes}
@@ -31,7 +31,7 @@ use Rattle.hx_rows.specs.Steps.{Steps, IsAtRest, IsGone, Gets, Loses}
 use Rattle.hx_rows.specs.Row.{IsRowOf}
 use Rattle.hx_rows.proofs.Resting.{IsNoPark, NoParks, elsewhere}
 use Rattle.hx_rows.proofs.Following.{follows_more, follows_less}
-use Rattle.hx_rows.proofs.Stepping.{steps_none, steps_both, makes_of, looks_rest}
+use Rattle.hx_rows.proofs.Stepping.{steps_none, steps_both, makes_of}
 use Rattle.hx_rows.proofs.Taking.{row_then}
 use Rattle.hx_rows.proofs.Choosing.{fit_true, is_best, none_rests}
 
@@ -180,7 +180,7 @@ module _ (s0 s1 s2 : PlaceView) (n : SessionNo) (first : Bool) (stays left : Lis
   pub row_took : IsRowOf left s2
   row_took =
       let gone = subst (λ (u : ThreadNo). IsGone s2 (place_of u.0 x.place) x.face) (sym took.thread) k.gone in
-      pulled_row s2 s0.view.terms.rules.mode first stays left x p (row_then s1 s2 (taking s1.view.thread n first place x.face k.count) stays k.steps (tt, tt, tt, tt) t.row) gone
+      pulled_row s2 s0.view.terms.rules.mode first stays left x p (row_then s1 s2 (taking s1.view.thread n first place x.face k.count) stays k.steps (tt, (tt, (tt, tt))) t.row) gone
 
   pub stands_took : Stands s2.view
   stands_took = took.one

@@ -6,7 +6,6 @@ use Rattle.hx_base.specs.PlaceWords.{IsFace}
 use Rattle.hx_pool.specs.declared.entries.Note.{Note}
 use Rattle.hx_pool.specs.Table.{Holds, spot_at}
 use Rattle.hx_pool.specs.History.{table_after}
-use Rattle.hx_pool.specs.Rules.{allows}
 use Rattle.hx_pool.specs.Causes.{place_of}
 use Rattle.hx_pool.specs.Taking.{last_park}
 use Rattle.hx_resting.specs.Row.{fits}

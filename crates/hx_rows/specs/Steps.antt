@@ -7,8 +7,7 @@ use Rattle.hx_base.specs.PlaceWords.{IsFace}
 use Rattle.hx_base.specs.Shown.{Shown}
 use Rattle.hx_pool.specs.declared.entries.Found.{Found}
 use Rattle.hx_pool.specs.declared.entries.Found.TheVariants.{Resting}
-use Rattle.hx_pool.specs.declared.entries.Entry.{Entry}
-use Rattle.hx_pool.specs.declared.entries.Entry.TheVariants.{Park, Look, Up, Down, Gate}
+use Rattle.hx_pool.specs.declared.entries.Entry.TheVariants.{Look, Up, Down, Gate}
 use Rattle.hx_pool.specs.declared.entries.Note.{Note}
 use Rattle.hx_pool.specs.declared.refusals.NoPark.{NoPark}
 use Rattle.hx_pool.specs.declared.refusals.NoPark.TheVariants.{RowFull, Draining, PoolFull}
@@ -70,6 +69,7 @@ pub record Admits (old new : PlaceView) (place : PlaceNo) : Type 0 where
   pub limit : IfSome old.view.terms.rules.max (λ m. count < m)
   pub steps : Steps old new (gated old.view.thread looks (plain (Up old.view.thread count) ∷ []))
   pub vacant : WasVacant new.view.mine place
+  pub turn_is : turn new ≡ record { due = WentUp count; call = AtEase }
 
 -- a place is vacant, and the server drains
 pub record IsShut (old new : PlaceView) : Type 0 where

@@ -92,8 +92,8 @@ impl Row {
     {
         self.last = NO_MARKS;
         let t = seat.thread();
-        let rules = seat.rules();
-        if let Some(why) = refused_by_rules(&rules) {
+        let pool = seat.rules();
+        if let Some(why) = refused_by_rules(&pool) {
             return Err(Unparked { v, why });
         }
         let place = match admit(seat) {
@@ -104,11 +104,17 @@ impl Row {
         let parked = park_entry(t, n, place, face);
         self.last = one_mark(parked);
         match rest_at(seat, n, place, v) {
-            Outcome::Stays => self.stays.add(Stay {
-                place: place.place,
-                face,
-            }),
-            Outcome::IsTaken => self.stays.forget(place.place),
+            Outcome::Stays => {
+                self.stays.add(Stay {
+                    place: place.place,
+                    face,
+                });
+                Ok(place)
+            }
+            Outcome::IsTaken => {
+                self.stays.forget(place.place);
+                Ok(place)
+            }
             Outcome::Back(v) => {
                 self.stays.forget(place.place);
                 let taker = Taker { t, n, first: false };
@@ -116,13 +122,12 @@ impl Row {
                     first: Some(parked),
                     second: Some(take_entry(taker, place, face)),
                 };
-                return Err(Unparked {
+                Err(Unparked {
                     v,
                     why: NoPark::Draining,
-                });
+                })
             }
         }
-        Ok(place)
     }
 
     /// Takes the connection of the own row that session `n` likes best for its request. `first`: it

@@ -40,4 +40,4 @@ returns-then-not-has_room g c =
 pub returns : goal.returns
 returns g c =
     admits c.args.seat.now c.find_vacant.new.seat c.gate.new.self c.up-count.new.self c.in-Some.place c.gate.result c.up-count.result c.rules.result.max
-    c.in-Some.ensures c.if-gate.false c.gate.ensures.notes c.up-count.ensures.notes (ap (λ (r : PoolRules). r.max) c.rules.ensures) c.if-not-has_room.ensures
+    c.requires.rest c.in-Some.ensures c.if-gate.false c.gate.ensures.notes c.up-count.ensures.notes (ap (λ (r : PoolRules). r.max) c.rules.ensures) c.if-not-has_room.ensures

@@ -1,4 +1,4 @@
-use Rattle.std.proofs.Common.{◌≤◌, sym, ◌∙◌, subst, arith, length}
+use Rattle.std.proofs.Common.{◌≤◌, sym, ◌∙◌, subst, arith}
 use Rattle.hx_rows.specs.Stays.{AreApart, NoneAt}
 use Rattle.hx_rows.proofs.Listing.{apart_push, none_here, room}
 use Rattle.hx_rows.proofs.stays.Stays.add.Goals as goal

@@ -1,5 +1,4 @@
 use Rattle.std.proofs.Common.{◌≤◌, sym, ap, ◌∙◌, subst}
-use Rattle.std.specs.Vec.{vec_capacity}
 use Rattle.hx_rows.specs.Stays.{AreApart, NoneAt, IsAt, others_at}
 use Rattle.hx_rows.proofs.Listing.{left_is, apart_mid, others_mid, others_none}
 use Rattle.hx_rows.proofs.stays.Stays.forget.Goals as goal

@@ -1,4 +1,4 @@
-use Rattle.std.proofs.Common.{◌≤◌, sym, ◌∙◌, subst}
+use Rattle.std.proofs.Common.{◌≤◌, sym, subst}
 use Rattle.hx_rows.specs.Stays.{AreApart, BestFits, Pulls}
 use Rattle.hx_rows.proofs.Listing.{left_is, apart_mid, pulls}
 use Rattle.hx_rows.proofs.stays.Stays.pull_best.Goals as goal
