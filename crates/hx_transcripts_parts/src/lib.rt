@@ -1,0 +1,17 @@
+//! Private parts of hx_transcripts: the reader of single lines of a transcript.
+#![tactic(auto)]
+
+mod fault;
+mod keywords;
+mod marks;
+mod numbers;
+mod pieces;
+mod records;
+mod spelling;
+mod words;
+
+pub use fault::{Refusal, Rule};
+pub use keywords::{MarkWord, RecordWord, mark_word, record_word};
+pub use pieces::server_named;
+pub use records::{Begin, Exchange};
+pub use words::Words;
