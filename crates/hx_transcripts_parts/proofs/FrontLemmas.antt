@@ -1,8 +1,9 @@
 -- What stands behind a text's front, one byte or one letter after the other.
 use Rattle.std.proofs.Common.{◌≡◌, ℕ, ◌+◌, ◌<◌, ◌≤◌, ◌≢◌, true, false, cond, List, [], ◌∷◌, ◌++◌, length, drop, get_or, Option, Some, None, refl, sym, ap, ap₂, ◌∙◌, append_assoc, inl, inr}
-use Rattle.std.specs.Option.{option_and_then}
+use Rattle.std.specs.Option.{option_map}
 use Rattle.std.specs.List.{flat_map}
-use Rattle.std.specs.Prelude.{◌==◌}
+use Rattle.std.specs.Prelude.{◌==◌, MatchOption, codes}
+use Rattle.std.specs.Borrow.{Bor}
 use Rattle.std.proofs.lemmas.List.{drop_more, drop_all}
 use Rattle.std.proofs.lemmas.Bool.{eq-eqb, ne_eqb, cond-true, cond-false, cases_Bool, eqb-true}
 use Rattle.hx_script_parts.specs.ByteText.{escaped, quoted}
@@ -53,10 +54,46 @@ unfolding behind_front
 stands_behind [] rest = refl
 stands_behind (x ∷ front) rest = cond-true _ _ _ (eq-eqb x x refl) ∙ stands_behind front rest
 
--- ---- steps of the loop over a front
+nothing : (front text : List ℕ) (o : Option (List ℕ)) → behind_front front text ≡ o → ((rest : List ℕ) → text ≢ front ++ rest) → behind_front front text ≡ None
+nothing front text None is none = is
+nothing front text (Some rest) is none = absurd (none rest (is_behind front text rest is))
 
-pub byte_passed : (front text : List ℕ) (i x : ℕ) (b : ℕ) (bs : List ℕ) (total : Option (List ℕ)) → i < length front
-    → x ≡ get_or front i 0 → b ≡ x → behind_front (drop i front) (b ∷ bs) ≡ total → behind_front (drop (i + 1) front) bs ≡ total
-byte_passed front text i x b bs total lt at is so_far =
-    let here : drop i front ≡ x ∷ drop (i + 1) front = drop_more front i 0 lt ∙ ap (λ (y : ℕ). y ∷ drop (i + 1) front) (sym at) in
-    sym (one_more x (drop (i + 1) front) b bs is) ∙ ap (λ (f : List ℕ). behind_front f (b ∷ bs)) (sym here) ∙ so_far
+-- what a call says that strips the front
+pub stripped : (front text : List ℕ) (r : Option (Bor (List ℕ))) → MatchOption r ((rest : List ℕ) → text ≢ front ++ rest) (λ x. text ≡ front ++ x.now)
+    → option_map (λ s. s.now) r ≡ behind_front front text
+stripped front text None none = sym (nothing front text (behind_front front text) refl none)
+stripped front text (Some x) is = sym (ap (behind_front front) is ∙ stands_behind front x.now)
+
+-- ---- the letters of a byte text, one after the other
+
+more_letters : (bytes : List ℕ) (i b : ℕ) → i < length bytes → b ≡ get_or bytes i 0
+    → flat_map escaped (drop i bytes) ≡ escaped b ++ flat_map escaped (drop (i + 1) bytes)
+more_letters bytes i b lt is =
+    ap (flat_map escaped) (drop_more bytes i 0 lt) ∙ ap (λ (x : ℕ). escaped x ++ flat_map escaped (drop (i + 1) bytes)) (sym is)
+
+pub letter_passed : (bytes rest after : List ℕ) (i b : ℕ) (total : Option (List ℕ)) → i < length bytes → b ≡ get_or bytes i 0
+    → behind_front (escaped b) rest ≡ Some after → behind_front (flat_map escaped (drop i bytes)) rest ≡ total
+    → behind_front (flat_map escaped (drop (i + 1) bytes)) after ≡ total
+letter_passed bytes rest after i b total lt is one so_far =
+    let more = flat_map escaped (drop (i + 1) bytes) in
+    sym (ap (λ (o : Option (List ℕ)). onward o (behind_front more)) one) ∙ sym (behind_both (escaped b) more rest)
+    ∙ sym (ap (λ (f : List ℕ). behind_front f rest) (more_letters bytes i b lt is)) ∙ so_far
+
+pub letter_missing : (bytes rest : List ℕ) (i b : ℕ) (total : Option (List ℕ)) → i < length bytes → b ≡ get_or bytes i 0
+    → behind_front (escaped b) rest ≡ None → behind_front (flat_map escaped (drop i bytes)) rest ≡ total → total ≡ None
+letter_missing bytes rest i b total lt is none so_far =
+    let more = flat_map escaped (drop (i + 1) bytes) in
+    sym so_far ∙ ap (λ (f : List ℕ). behind_front f rest) (more_letters bytes i b lt is) ∙ behind_both (escaped b) more rest
+    ∙ ap (λ (o : Option (List ℕ)). onward o (behind_front more)) none
+
+pub letters_over : (bytes rest : List ℕ) (i : ℕ) (total : Option (List ℕ)) → length bytes ≤ i
+    → behind_front (flat_map escaped (drop i bytes)) rest ≡ total → total ≡ Some rest
+unfolding behind_front
+letters_over bytes rest i total past so_far = sym so_far ∙ ap (λ (xs : List ℕ). behind_front (flat_map escaped xs) rest) (drop_all i bytes past)
+
+-- the quotes around the letters
+pub quotes_around : (bytes text : List ℕ) → behind_front (quoted bytes) text
+    ≡ onward (onward (behind_front (codes "\"") text) (behind_front (flat_map escaped bytes))) (behind_front (codes "\""))
+quotes_around bytes text =
+    behind_both (codes "\"" ++ flat_map escaped bytes) (codes "\"") text
+    ∙ ap (λ (o : Option (List ℕ)). onward o (behind_front (codes "\""))) (behind_both (codes "\"") (flat_map escaped bytes) text)

@@ -1,3 +1,10 @@
 pub mod CutLemmas
+pub mod FoundLemmas
 pub mod FrontLemmas
+pub mod LineLemmas
+pub mod MarkLemmas
+pub mod NumberLemmas
+pub mod PieceLemmas
+pub mod TableLemmas
 pub mod ValueLemmas
+pub mod WordLemmas

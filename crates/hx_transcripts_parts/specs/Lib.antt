@@ -1,8 +1,10 @@
 pub mod Faults
 pub mod Keywords
 pub mod Lexical
+pub mod MarkLaws
 pub mod Marks
 pub mod Numbers
 pub mod Pieces
+pub mod ReadBack
 pub mod Records
 pub mod Spelling

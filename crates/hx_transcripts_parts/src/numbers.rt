@@ -1,5 +1,5 @@
 //! Numbers, and what a mark cuts in two.
-ghost use Rattle.std.specs.Prelude.{◌≡◌, true, min, ◌^◌, Some};
+ghost use Rattle.std.specs.Prelude.{◌≡◌, ◌≤◌, true, min, ◌^◌, IfOk};
 ghost use Rattle.std.specs.List.{list_all};
 ghost use Rattle.std.specs.Option.{option_map};
 ghost use Rattle.hx_config_parts.specs.Numbers.{is_digit, value};
@@ -35,7 +35,8 @@ fn value_of(word: &[u8]) -> u128
 
 /// The number that the word spells, which is at most `most`.
 pub fn number_of(word: &[u8], most: u64) -> Result<u64, Refusal>
-    ensures { Gives (λ n. n) result (number_in most word.now) }
+    ensures reads { Gives (λ n. n) result (number_in most word.now) }
+    ensures within { IfOk result (λ n. n ≤ most) }
 {
     if !is_decimal_word(word) {
         return Err(Refusal::Fault(Rule::BadNumber));
@@ -72,7 +73,8 @@ pub fn cut(word: &[u8], mark: u8) -> Option<(&[u8], &[u8])>
 impl<'a> Words<'a> {
     /// The next word, which must be a number of at most `most`.
     pub fn number(&mut self, most: u64) -> Result<u64, Refusal>
-        ensures { Gives (λ n. (n, self.new)) result (read_word (number_in most) self.old) }
+        ensures reads { Gives (λ n. (n, self.new)) result (read_word (number_in most) self.old) }
+        ensures within { IfOk result (λ n. n ≤ most) }
     {
         let word = self.word()?;
         number_of(word, most)

@@ -21,14 +21,7 @@ fn hex(d: u8) -> u8
 fn behind<'a>(text: &'a [u8], front: &[u8]) -> Option<&'a [u8]>
     ensures { option_map (λ s. s.now) result ≡ behind_front front.now text.now }
 {
-    let mut rest = text;
-    for b in front {
-        match rest {
-            [first, after @ ..] if *first == *b => rest = after,
-            _ => return None,
-        }
-    }
-    Some(rest)
+    text.strip_prefix(front)
 }
 
 // What stands behind the one spelling of a byte.
