@@ -5,6 +5,9 @@ pub mod LineLemmas
 pub mod MarkLemmas
 pub mod NumberLemmas
 pub mod PieceLemmas
+pub mod RecordLemmas
 pub mod TableLemmas
+pub mod TextLemmas
+pub mod TotalsLemmas
 pub mod ValueLemmas
 pub mod WordLemmas

@@ -6,5 +6,6 @@ pub mod Marks
 pub mod Numbers
 pub mod Pieces
 pub mod ReadBack
+pub mod RecordLaws
 pub mod Records
 pub mod Spelling

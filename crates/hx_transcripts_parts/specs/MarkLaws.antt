@@ -38,6 +38,13 @@ pub record IsMarkLine (first : MarkWord) (ws : Rest) (m : Entry) : Type 0 where
   pub fits : FitsMark m
   pub line : mark_line m ≡ mark_text first ++ rest_text ws ++ codes "\n"
 
+-- the mark is read from its line
+pub record IsMarkRead (m : Entry) : Type 0 where
+  pub first : MarkWord
+  pub ws : Rest
+  pub line : mark_line m ≡ mark_text first ++ rest_text ws ++ codes "\n"
+  pub read : mark_at first ws ≡ Ok m
+
 -- what is left of a server's line behind its name
 abbrev pub rules_text : PoolRules → List ℕ
 rules_text r =

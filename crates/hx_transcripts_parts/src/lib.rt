@@ -3,6 +3,7 @@
 
 mod fault;
 mod keywords;
+mod laws;
 mod marks;
 mod numbers;
 mod pieces;
@@ -12,6 +13,7 @@ mod words;
 
 pub use fault::{Refusal, Rule};
 pub use keywords::{MarkWord, RecordWord, mark_word, record_word};
+pub use laws::{marks_read_back, numbers_read_back};
 pub use pieces::server_named;
 pub use records::{Begin, Exchange};
 pub use words::Words;
