@@ -97,3 +97,25 @@ pub quotes_around : (bytes text : List ℕ) → behind_front (quoted bytes) text
 quotes_around bytes text =
     behind_both (codes "\"" ++ flat_map escaped bytes) (codes "\"") text
     ∙ ap (λ (o : Option (List ℕ)). onward o (behind_front (codes "\""))) (behind_both (codes "\"") (flat_map escaped bytes) text)
+
+abbrev letters_of : List ℕ → List ℕ
+letters_of bytes = flat_map escaped bytes
+
+-- no quote stands at the front
+pub no_quote : (bytes text : List ℕ) → None ≡ behind_front (codes "\"") text → None ≡ behind_front (quoted bytes) text
+no_quote bytes text none =
+    sym (quotes_around bytes text ∙ ap (λ (o : Option (List ℕ)). onward (onward o (behind_front (letters_of bytes))) (behind_front (codes "\""))) (sym none))
+
+-- the letters don't stand behind it
+pub no_letters : (bytes text l : List ℕ) → Some l ≡ behind_front (codes "\"") text → None ≡ behind_front (flat_map escaped bytes) l
+    → None ≡ behind_front (quoted bytes) text
+no_letters bytes text l one none =
+    sym (quotes_around bytes text ∙ ap (λ (o : Option (List ℕ)). onward (onward o (behind_front (letters_of bytes))) (behind_front (codes "\""))) (sym one)
+    ∙ ap (λ (o : Option (List ℕ)). onward o (behind_front (codes "\""))) (sym none))
+
+-- what stands behind the closing quote, if it is there
+pub closed_so : (bytes text l r : List ℕ) (o : Option (List ℕ)) → Some l ≡ behind_front (codes "\"") text → Some r ≡ behind_front (flat_map escaped bytes) l
+    → o ≡ behind_front (codes "\"") r → o ≡ behind_front (quoted bytes) text
+closed_so bytes text l r o one two three =
+    three ∙ sym (quotes_around bytes text ∙ ap (λ (p : Option (List ℕ)). onward (onward p (behind_front (letters_of bytes))) (behind_front (codes "\""))) (sym one)
+    ∙ ap (λ (p : Option (List ℕ)). onward p (behind_front (codes "\""))) (sym two))

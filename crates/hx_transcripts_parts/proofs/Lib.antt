@@ -6,6 +6,7 @@ pub mod MarkLemmas
 pub mod NumberLemmas
 pub mod PieceLemmas
 pub mod RecordLemmas
+pub mod SpelledLemmas
 pub mod TableLemmas
 pub mod TextLemmas
 pub mod TotalsLemmas

@@ -43,10 +43,11 @@ two_read {X} {Y} {Z} read text Fits read' text' Fits' put one other whole left r
       let b = next_sound read' text' Fits' k a.rest (λ (y : Y × Rest). Ok (put a.x y.0, y.1)) z a.more in
       let stands : rest_text ws ≡ 32 ∷ (text a.x ++ codes " " ++ text' b.x) ++ rest_text b.rest =
       a.stands ∙ ap (λ (t : List ℕ). 32 ∷ (text a.x ++ t)) b.stands ∙ ap (λ (t : List ℕ). 32 ∷ t) (regroup (text a.x) (text' b.x) (rest_text b.rest)) in
-      subst (λ (v : Z × Rest). (Fits (one v.0) × Fits' (other v.0)) × (rest_text ws ≡ 32 ∷ (text (one v.0) ++ codes " " ++ text' (other v.0)) ++ rest_text v.1)) (ok_is (put a.x b.x, b.rest) z b.more)
-      ((subst Fits (sym (left a.x b.x)) a.fits, subst Fits' (sym (right a.x b.x)) b.fits),
-      stands ∙ ap (λ (x : X). 32 ∷ (text x ++ codes " " ++ text' b.x) ++ rest_text b.rest) (sym (left a.x b.x))
-      ∙ ap (λ (y : Y). 32 ∷ (text (one (put a.x b.x)) ++ codes " " ++ text' y) ++ rest_text b.rest) (sym (right a.x b.x)));
+      subst (λ (v : Z × Rest). (Fits (one v.0) × Fits' (other v.0)) × (rest_text ws ≡ 32 ∷ (text (one v.0) ++ codes " " ++ text' (other v.0)) ++ rest_text v.1)) (ok_is (put a.x b.x, b.rest) z b.more) (
+        (subst Fits (sym (left a.x b.x)) a.fits, subst Fits' (sym (right a.x b.x)) b.fits),
+        stands ∙ ap (λ (x : X). 32 ∷ (text x ++ codes " " ++ text' b.x) ++ rest_text b.rest) (sym (left a.x b.x))
+            ∙ ap (λ (y : Y). 32 ∷ (text (one (put a.x b.x)) ++ codes " " ++ text' y) ++ rest_text b.rest) (sym (right a.x b.x)),
+      );
   whole = λ z rest fits.
       let b = k.whole (other z) rest fits.1 in
       let a = h.whole (one z) b.0 fits.0 in (

@@ -13,10 +13,13 @@ number_in most w = if is_decimal w && nat_le (value w) most then Ok (value w) el
 -- the greatest numbers of 8, 16, 32 and 64 bits
 abbrev pub most_8 : ℕ
 most_8 = 255
+
 abbrev pub most_16 : ℕ
 most_16 = 65535
+
 abbrev pub most_32 : ℕ
 most_32 = 4294967295
+
 abbrev pub most_64 : ℕ
 most_64 = 18446744073709551615
 

@@ -33,8 +33,10 @@ pub record ReadsLine {X : Type 0} (read : Rest → Result X Rule) (text : X → 
 -- numbers as large as their types hold
 abbrev pub FitsWho : ThreadNo × SessionNo → Type 0
 FitsWho x = (x.0.0 ≤ most_8) × (x.1.0 ≤ most_32)
+
 abbrev pub FitsPlace : PlaceNo → Type 0
 FitsPlace p = (p.row ≤ most_8) × (p.place ≤ most_8)
+
 abbrev pub FitsSpan : Span → Type 0
 FitsSpan s = (s.from ≤ most_64) × (s.to ≤ most_64)
 

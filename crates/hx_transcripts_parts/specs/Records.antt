@@ -46,15 +46,18 @@ exchange_at servers ws = do
   sent ← range_at (codes "sent") ask.1
   took ← range_at (codes "took") sent.1
   gave ← range_at (codes "gave") took.1
-  Ok (record {
-    server = conn.0.0;
-    id = conn.0.1;
-    nth = nth.0;
-    ask = ask.0;
-    sent = sent.0;
-    took = took.0;
-    gave = gave.0;
-  }, gave.1)
+  Ok (
+    record {
+      server = conn.0.0;
+      id = conn.0.1;
+      nth = nth.0;
+      ask = ask.0;
+      sent = sent.0;
+      took = took.0;
+      gave = gave.0;
+    },
+    gave.1,
+  )
 
 -- what was carried
 abbrev pub carried : Exchange → Bool → Carried

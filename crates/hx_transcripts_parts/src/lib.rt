@@ -13,7 +13,10 @@ mod words;
 
 pub use fault::{Refusal, Rule};
 pub use keywords::{MarkWord, RecordWord, mark_word, record_word};
-pub use laws::{marks_read_back, numbers_read_back};
+pub use laws::{
+    byte_texts_read_back, marks_read_back, records_read_back, rules_read_back, totals_read_back,
+    words_read_back,
+};
 pub use pieces::server_named;
 pub use records::{Begin, Exchange};
 pub use words::Words;

@@ -173,12 +173,7 @@ impl<'a> Words<'a> {
         let closing = self.cut_closing()?;
         let why = self.cut_cause(closing)?;
         self.end()?;
-        Ok(served(
-            begin,
-            x.ask,
-            x.gave,
-            Kind::Cut(carried(x, closing), why),
-        ))
+        Ok(served(begin, x.ask, x.gave, Kind::Cut(carried(x, closing), why)))
     }
 
     fn own(&mut self) -> Result<Told, Refusal>

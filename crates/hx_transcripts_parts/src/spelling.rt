@@ -60,8 +60,12 @@ fn behind_letters<'a>(text: &'a [u8], bytes: &[u8]) -> Option<&'a [u8]>
 fn behind_quoted<'a>(text: &'a [u8], bytes: &[u8]) -> Option<&'a [u8]>
     ensures { option_map (λ s. s.now) result ≡ behind_front (quoted bytes.now) text.now }
 {
-    let letters = behind(text, b"\"")?;
-    let rest = behind_letters(letters, bytes)?;
+    let Some(letters) = behind(text, b"\"") else {
+        return None;
+    };
+    let Some(rest) = behind_letters(letters, bytes) else {
+        return None;
+    };
     behind(rest, b"\"")
 }
 
