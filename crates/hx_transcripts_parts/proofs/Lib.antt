@@ -1,0 +1,14 @@
+pub mod CutLemmas
+pub mod FoundLemmas
+pub mod FrontLemmas
+pub mod LineLemmas
+pub mod MarkLemmas
+pub mod NumberLemmas
+pub mod PieceLemmas
+pub mod RecordLemmas
+pub mod SpelledLemmas
+pub mod TableLemmas
+pub mod TextLemmas
+pub mod TotalsLemmas
+pub mod ValueLemmas
+pub mod WordLemmas

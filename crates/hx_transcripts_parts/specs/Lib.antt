@@ -1,0 +1,11 @@
+pub mod Faults
+pub mod Keywords
+pub mod Lexical
+pub mod MarkLaws
+pub mod Marks
+pub mod Numbers
+pub mod Pieces
+pub mod ReadBack
+pub mod RecordLaws
+pub mod Records
+pub mod Spelling
