@@ -104,7 +104,7 @@ module _ {T : Type 0} where
       let g = x.giver in
       let none : items_of g (past.got ++ x ∷ items) ≡ [] = delivered g ∙ (later g low).1 in
       let parts : items_of g (past.got ++ x ∷ items) ≡ items_of g past.got ++ x.item ∷ items_of g items =
-          items_more g past.got (x ∷ items) ∙ ap (λ l. items_of g past.got ++ l) (items_more g (x ∷ []) items ∙ ap (λ l. l ++ items_of g items) (item_here g x refl)) in
+      items_more g past.got (x ∷ items) ∙ ap (λ l. items_of g past.got ++ l) (items_more g (x ∷ []) items ∙ ap (λ l. l ++ items_of g items) (item_here g x refl)) in
       let size : length (items_of g past.got ++ x.item ∷ items_of g items) ≡ 0 = ap length (sym parts ∙ none) in
       absurd (omega (arith, length-append (items_of g past.got) (x.item ∷ items_of g items))))
 

@@ -122,7 +122,7 @@ pub seen_vacant : (old new : PlaceView) (t : ThreadNo) (place : PlaceNo) (found 
 seen_vacant old new t place found n is =
     known_more old.view.hand old.view new.view (plain (Look t place found)) (spot_no place) n.adds
     ∙ (ap (λ (c : Bool). cond c (known_by found) (known_of old.view.mine (spot_no place)))
-        (eq-eqb (spot_no place) (spot_no place) refl)
+    (eq-eqb (spot_no place) (spot_no place) refl)
     ∙ ap known_by is)
 
 -- a new connection has no use
@@ -139,7 +139,7 @@ pub admitted_more : (a b c : PlaceView) (t u : ThreadNo) (count : ℕ) → Notes
 admitted_more a b c t u count g n =
     admission_more b.view.hand b.view c.view (plain (Up u count)) n.adds
     ∙ ap (λ (x : Admission). admission_after x (Up u count))
-        (admission_more a.view.hand a.view b.view (plain (Gate t false)) g.adds)
+    (admission_more a.view.hand a.view b.view (plain (Gate t false)) g.adds)
 
 -- what holds of each element that can be read
 pub all_of : {A : Type 0} (P : A → Type 0) (xs : List A) → ((k : ℕ) (x : A) → slice_get xs k ≡ Some x → P x) → All P xs

@@ -31,9 +31,9 @@ takes old new n first place f v t one idle ours =
     let free : Note = plain (Free old.view.thread place) in
     let hand = old.view.hand in
     let held : hold_of new.view.mine f.id.0 ≡ hold n f.uses =
-        hold_more hand t.middle new.view free f.id.0 t.frees
-        ∙ (hold_more hand old.view t.middle take f.id.0 t.takes
-        ∙ ap (λ (c : Bool). cond c (hold n f.uses) (hold_of old.view.mine f.id.0)) (eq-eqb f.id.0 f.id.0 refl)) in
+    hold_more hand t.middle new.view free f.id.0 t.frees
+    ∙ (hold_more hand old.view t.middle take f.id.0 t.takes
+    ∙ ap (λ (c : Bool). cond c (hold n f.uses) (hold_of old.view.mine f.id.0)) (eq-eqb f.id.0 f.id.0 refl)) in
     let fine = t.there.face in record {
       turn_is = turn_more hand t.middle new.view free (record { due = HasTaken; call = AtEase }) t.frees
           (turn_more hand old.view t.middle take (turn old) t.takes refl);

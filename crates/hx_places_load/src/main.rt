@@ -22,8 +22,16 @@ fn count_given(rt: &HostRuntime) -> Option<u32> {
 }
 
 fn show_figures(rt: &HostRuntime, load: &Load) -> std::io::Result<()> {
-    println!(rt; "opened {}, closed {}, left {}", load.opened, load.closed, load.left)?;
-    println!(rt; "rests {}, parks refused {}, takes lost {}", load.parked.len(), load.refused, load.lost)
+    println!(rt;
+        "opened {}, closed {}, left {}",
+        load.opened, load.closed, load.left
+    )?;
+    println!(rt;
+        "rests {}, parks refused {}, takes lost {}",
+        load.parked.len(),
+        load.refused,
+        load.lost
+    )
 }
 
 /// With a count it prints what came of so many turns of each thread. Without one it makes a few, and prints just the verdict.

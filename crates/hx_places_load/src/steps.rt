@@ -81,7 +81,7 @@ fn is_below(max: Option<u32>, count: u64) -> bool
     }
 }
 
-/// Whether the server takes one more: it is ready, and counted up there is room. 
+/// Whether the server takes one more: it is ready, and counted up there is room.
 fn is_admitted(seat: &mut PlaceSeat<'_, Card>) -> bool
     requires rest { IsAtRest seat.old }
     ensures shut { result ≡ false → IsAtRest seat.new }
@@ -148,11 +148,7 @@ fn take_back(seat: &mut PlaceSeat<'_, Card>, place: PlaceNo, face: Face) -> Opti
 
 /// Lets the connection rest at the claimed place after one more use. Where the server drains by now the seat tries to
 /// take it back, and answers the face of what it got.
-fn publish_at(
-    seat: &mut PlaceSeat<'_, Card>,
-    claim: Claim,
-    face: Face,
-) -> Option<Face>
+fn publish_at(seat: &mut PlaceSeat<'_, Card>, claim: Claim, face: Face) -> Option<Face>
     requires filling { IsFilling seat.old claim.place }
     requires has { HasFace seat.old face }
     requires uses { face.uses + 1 < 65536 }

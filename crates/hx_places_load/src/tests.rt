@@ -22,11 +22,20 @@ fn each_state_of_a_place_has_its_word(rt: HostRuntime) {
     assert_eq!(rt; pack_place(PlaceState::Vacant), 0);
     assert_eq!(rt; pack_place(PlaceState::Filling), 4_611_686_018_427_387_904);
     assert_eq!(rt; pack_place(resting), 9_223_372_036_855_103_491);
-    assert_eq!(rt; pack_place(PlaceState::Taken(ThreadNo(3))), 13_835_058_055_282_163_715);
+    assert_eq!(rt;
+        pack_place(PlaceState::Taken(ThreadNo(3))),
+        13_835_058_055_282_163_715
+    );
     assert_eq!(rt; unpack_place(0), Some(PlaceState::Vacant));
-    assert_eq!(rt; unpack_place(4_611_686_018_427_387_904), Some(PlaceState::Filling));
+    assert_eq!(rt;
+        unpack_place(4_611_686_018_427_387_904),
+        Some(PlaceState::Filling)
+    );
     assert_eq!(rt; unpack_place(9_223_372_036_855_103_491), Some(resting));
-    assert_eq!(rt; unpack_place(13_835_058_055_282_163_715), Some(PlaceState::Taken(ThreadNo(3))));
+    assert_eq!(rt;
+        unpack_place(13_835_058_055_282_163_715),
+        Some(PlaceState::Taken(ThreadNo(3)))
+    );
 }
 
 #[test]
@@ -93,7 +102,10 @@ fn of_two_seats_that_try_one_face_the_second_finds_the_place_empty(
     assert_eq!(rt; a.count(), 0);
     // It comes back with another use, and the old face takes it no more.
     assert_eq!(rt; b.park(0), Parked::Rests(face(1, 2)));
-    assert_eq!(rt; a.take(place(1, 0), face(1, 1)), Err(Some(Found::Resting(face(1, 2)))));
+    assert_eq!(rt;
+        a.take(place(1, 0), face(1, 1)),
+        Err(Some(Found::Resting(face(1, 2))))
+    );
     assert_eq!(rt; a.take(place(1, 0), face(1, 2)), Ok(()));
     assert_eq!(rt; a.close(), Some(face(1, 2)));
     Ok(())
@@ -119,7 +131,10 @@ fn two_seats_whose_calls_fall_between_one_another(rt: HostRuntime) -> Result<(),
     // A server that drains takes none; each seat closes what the other opened.
     b.set_draining(true);
     assert_eq!(rt; a.park(0), Parked::Refused);
-    assert_eq!(rt; (a.close(), b.close()), (Some(face(2, 1)), Some(face(1, 1))));
+    assert_eq!(rt;
+        (a.close(), b.close()),
+        (Some(face(2, 1)), Some(face(1, 1)))
+    );
     assert_eq!(rt; (a.raise(7), b.raise(5)), (0, 7));
     assert_eq!(rt; a.look(place(1, 1)), Some(Found::Resting(face(3, 1))));
     assert_eq!(rt; (a.count(), b.look(place(1, 3))), (1, Some(Found::Empty)));

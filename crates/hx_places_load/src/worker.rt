@@ -153,7 +153,10 @@ impl<'a> Worker<'a> {
 }
 
 /// The seats of all threads of a board, each at rest.
-pub(crate) fn seats_of(board: &mut Board<Card>, alloc: Global) -> Result<Vec<PlaceSeat<'_, Card>>, NoMemory>
+pub(crate) fn seats_of(
+    board: &mut Board<Card>,
+    alloc: Global,
+) -> Result<Vec<PlaceSeat<'_, Card>>, NoMemory>
     requires first { board.old.given ≡ 0 }
     requires ours { IsOurs board.old.terms }
     ensures { IfOk result (λ v. All IsAtRest v.items) }

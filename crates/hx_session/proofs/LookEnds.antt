@@ -67,6 +67,7 @@ first_head m bytes k ((inside, (g, kind, x, own)), y) =
         let here : ReadsResponse (take k bytes) g x.body = subst (λ (xs : List ℕ). ReadsResponse xs g x.body) (sym begins) x.reads in
         (kind, ap (answer_kind m) (response_unique (take k bytes) y.head g y.body x.body reads here).0 ∙ x.framed)
     by_first (h ∷ hs) (middle, first, interim, later) reads = absurd (interim_final h y.head (response_unique (take k bytes) h y.head middle y.body first reads).0 interim y.final)
+
     by_interims : (gs : List ResponseHead) → BeginsShortInterims (take k bytes) gs y.rest → FirstHead m (take k bytes)
     by_interims [] begins =
         let reads : ReadsResponse (take k bytes) y.head y.body = subst (λ (xs : List ℕ). ReadsResponse xs y.head y.body) (sym begins) y.reads in
@@ -88,8 +89,7 @@ in_front : (bytes rest : List ℕ) (g : ResponseHead) → ReadsResponse bytes g 
 in_front bytes rest g reads short =
     let text = print_response g in
     let few : length text ≤ head_limit = omega (arith, short.size, ap length reads.1, length-append text rest) in
-    let size : head_limit ≡ length text + (head_limit - length text) = omega (arith, few) in
-    (
+    let size : head_limit ≡ length text + (head_limit - length text) = omega (arith, few) in (
       take (head_limit - length text) rest,
       (reads.0, ap (take head_limit) reads.1 ∙ (ap (λ (n : ℕ). take n (text ++ rest)) size ∙ take-append-add text rest (head_limit - length text))),
     )
