@@ -4,7 +4,8 @@ use Rattle.std.specs.Prelude.{IfSome, Contains}
 use Rattle.std.proofs.lemmas.List.{append-nil, length-append, take-append-drop}
 use Rattle.std.proofs.Math.Seq.{drop-append_seam, take-append_seam}
 use Rattle.hx_frame.specs.declared.meter.Meter.{Meter}
-use Rattle.hx_frame.specs.Meters.{HasUsed}
+use Rattle.hx_frame.specs.declared.progress.MeterState.TheVariants.{Bad}
+use Rattle.hx_frame.specs.Meters.{HasUsed, state_of}
 use Rattle.hx_message.specs.Forwarded.{forwarded_request}
 use Rattle.hx_message.specs.Message.{IsWholeAnswer, Persists}
 use Rattle.hx_link.specs.Told.{IsCounted}
@@ -16,6 +17,7 @@ use Rattle.hx_session_parts.specs.declared.asks.Asked.{Asked}
 use Rattle.hx_session_parts.specs.Asks.{IsAsked, SpellsAsk}
 use Rattle.hx_session_parts.specs.OnWay.{AreInterimsOnWay}
 use Rattle.hx_session_parts.proofs.OnWayLemmas.{ask_begins}
+use Rattle.hx_session.proofs.BreakLemmas.{heads_unbroken}
 use Rattle.hx_session.specs.declared.exchange.AnswerWay.{AnswerWay}
 use Rattle.hx_session.specs.declared.exchange.BodyWay.{BodyWay}
 use Rattle.hx_pool.specs.Opening.{HasConn}
@@ -99,8 +101,9 @@ since_here (Some all) total counted = record { count = omega arith; bytes_are = 
 
 -- an exchange begins: its head was spelled, and what is behind it waits
 pub begins_carried : (d : DeskNow) (a : Asked) (busy : BusyNow) (meter : Meter) (e : ExchangeNow) (from' up' : PipeNow) → IsBetween d → IsAsked d.from.bytes a → BeginsOn a busy → IsCounted busy.link
-    → BeginsExchange a busy meter e → SpellsAsk d.from from' d.up up' a → HasUsed a.kind [] meter → IsCarried (record d { from = from'; up = up' }) e
-begins_carried d a busy meter e from' up' between asked on counted begins spells used =
+    → BeginsExchange a busy meter e → SpellsAsk d.from from' d.up up' a → HasUsed a.kind [] meter → (state_of meter ≡ Bad → ⊥)
+    → IsCarried (record d { from = from'; up = up' }) e
+begins_carried d a busy meter e from' up' between asked on counted begins spells used good =
     let g = asked.0 in
     let is = asked.1 in
     let head = a.head.length in
@@ -139,6 +142,7 @@ begins_carried d a busy meter e from' up' between asked on counted begins spells
         close = begins.wants ∙ is.close;
         written = begins.written ∙ sym (ap (λ (x : Exchange). x.asked) new);
         done = λ w. absurd (false_true (sym begins.written ∙ w));
+        breaks = λ bad. absurd (begins.good good bad);
       };
       answer = record {
         taken = none;
@@ -150,6 +154,7 @@ begins_carried d a busy meter e from' up' between asked on counted begins spells
         gives = between.anew.given;
         back = sym between.to;
         answered = begins.answered;
+        breaks = heads_unbroken e.answer e.ask.wants_close e.ask.written e.busy.exchange.method none none d.down.bytes (subst (λ (x : AnswerWay). CarriesAnswer x e.ask.wants_close e.ask.written e.busy.exchange.method none none) (sym begins.answer) no_interims) begins.answer;
       };
       ended = λ w. absurd (false_true (sym begins.ended ∙ w));
       open_ = ap (λ (x : Exchange). x.answer) new;

@@ -32,11 +32,12 @@ use Rattle.hx_session.specs.declared.exchange.AskWay.{AskWay}
 use Rattle.hx_session.specs.declared.exchange.BodyWay.{BodyWay}
 use Rattle.hx_session.specs.declared.exchange.AnswerWay.{AnswerWay}
 use Rattle.hx_session.specs.declared.exchange.AnswerWay.TheVariants.{Heads, Body}
-use Rattle.hx_session.specs.Answering.{CarriesAnswer}
+use Rattle.hx_session.specs.Answering.{CarriesAnswer, BreaksCarried}
 use Rattle.hx_session.specs.Carried.{IsCarried}
 use Rattle.hx_session.specs.Desks.{DeskNow}
 use Rattle.hx_session.specs.Exchanged.{ExchangeNow}
-use Rattle.hx_session.specs.Cutting.{BreaksHere, EndsBodyIn, EndsAnswerIn, Drops, DropsHeads, BreaksCarried, EndsAskAt, EndsAnswerFrom}
+use Rattle.hx_session.specs.Breaking.{BreaksHere}
+use Rattle.hx_session.specs.Cutting.{EndsBodyIn, EndsAnswerIn, Drops, DropsHeads, EndsAskAt, EndsAnswerFrom}
 use Rattle.hx_session.proofs.HeadEnds.{heads_none}
 use Rattle.hx_session.proofs.MessageEnds.{ask_ended, ask_cut, answer_ended, answer_none}
 
@@ -66,6 +67,7 @@ first_head m bytes k ((inside, (g, kind, x, own)), y) =
         let here : ReadsResponse (take k bytes) g x.body = subst (λ (xs : List ℕ). ReadsResponse xs g x.body) (sym begins) x.reads in
         (kind, ap (answer_kind m) (response_unique (take k bytes) y.head g y.body x.body reads here).0 ∙ x.framed)
     by_first (h ∷ hs) (middle, first, interim, later) reads = absurd (interim_final h y.head (response_unique (take k bytes) h y.head middle y.body first reads).0 interim y.final)
+
     by_interims : (gs : List ResponseHead) → BeginsShortInterims (take k bytes) gs y.rest → FirstHead m (take k bytes)
     by_interims [] begins =
         let reads : ReadsResponse (take k bytes) y.head y.body = subst (λ (xs : List ℕ). ReadsResponse xs y.head y.body) (sym begins) y.reads in
@@ -87,8 +89,7 @@ in_front : (bytes rest : List ℕ) (g : ResponseHead) → ReadsResponse bytes g 
 in_front bytes rest g reads short =
     let text = print_response g in
     let few : length text ≤ head_limit = omega (arith, short.size, ap length reads.1, length-append text rest) in
-    let size : head_limit ≡ length text + (head_limit - length text) = omega (arith, few) in
-    (
+    let size : head_limit ≡ length text + (head_limit - length text) = omega (arith, few) in (
       take (head_limit - length text) rest,
       (reads.0, ap (take head_limit) reads.1 ∙ (ap (λ (n : ℕ). take n (text ++ rest)) size ∙ take-append-add text rest (head_limit - length text))),
     )
@@ -225,24 +226,28 @@ lost_in m taken old new d = d.none refl
 pub ask_at : (d : DeskNow) (e : ExchangeNow) (n used : ℕ) (c : IsCarried d e) → EndsBodyIn c.ask.kind c.ask.way.body d.from.bytes (Some used) → n + length d.from.bytes ≡ d.taken + used → EndsAskAt d c.ask.taken n
 ask_at d e n used c ends is =
     let a = c.ask in
-    let size : n ≡ d.ask_from + (length a.taken + used) = omega (arith, is, a.front.count, c.desk.taken, length-append a.taken d.from.bytes) in
-    let rest : n - d.ask_from ≡ length a.taken + used = omega (arith, size) in
-    record { from = omega (arith, size); ends = subst (λ (k : ℕ). EndsRequest (a.taken ++ d.from.bytes) k) (sym rest) (ask_ended a.taken a.put d.from.bytes a.head a.kind e.ask.meter used a.way ends).ends }
+    record {
+      used = used;
+      within = ends.0;
+      is = omega (arith, is, a.front.count, c.desk.taken, length-append a.taken d.from.bytes);
+      ends = (ask_ended a.taken a.put d.from.bytes a.head a.kind e.ask.meter used a.way ends).ends;
+    }
 
 pub ask_all : (d : DeskNow) (e : ExchangeNow) (n : ℕ) (c : IsCarried d e) → EndsBodyIn c.ask.kind c.ask.way.body d.from.bytes None → n ≡ d.taken → EndsAskAt d c.ask.taken n
 ask_all d e n c ends is =
     let a = c.ask in
-    let size : n ≡ d.ask_from + (length a.taken + length d.from.bytes) = omega (arith, is, a.front.count, c.desk.taken, length-append a.taken d.from.bytes) in
-    let rest : n - d.ask_from ≡ length a.taken + length d.from.bytes = omega (arith, size) in
-    record { from = omega (arith, size); ends = subst (λ (k : ℕ). EndsRequest (a.taken ++ d.from.bytes) k) (sym rest) (ask_cut a.taken a.put d.from.bytes a.head a.kind e.ask.meter a.way ends).ends }
+    record {
+      used = length d.from.bytes;
+      within = omega arith;
+      is = omega (arith, is, a.front.count, c.desk.taken, length-append a.taken d.from.bytes);
+      ends = (ask_cut a.taken a.put d.from.bytes a.head a.kind e.ask.meter a.way ends).ends;
+    }
 
-pub answer_at : (m : MethodKind) (from n used : ℕ) (taken waiting : List ℕ) → EndsAnswerIn m taken waiting (Some used) → n ≡ from + length taken + used → EndsAnswerFrom m from (taken ++ waiting) n
-answer_at m from n used taken waiting ends is =
-    let rest : n - from ≡ length taken + used = omega (arith, is) in
-    record { behind = omega (arith, is); ends = inl (subst (λ (k : ℕ). HasShortAnswer m (taken ++ waiting) k) (sym rest) ends.1) }
+pub answer_at : (m : MethodKind) (from n used : ℕ) (taken waiting : List ℕ) → EndsAnswerIn m taken waiting (Some used) → n ≡ from + length taken + used → EndsAnswerFrom m from taken waiting n
+answer_at m from n used taken waiting ends is = record { used = used; within = ends.0; is = is; ends = inl ends.1 }
 
-pub answer_all : (m : MethodKind) (from n : ℕ) (taken waiting : List ℕ) → EndsAnswerIn m taken waiting None → n ≡ from + length (taken ++ waiting) → EndsAnswerFrom m from (taken ++ waiting) n
-answer_all m from n taken waiting ends is = record { behind = omega (arith, is); ends = inr (ends, omega (arith, is)) }
+pub answer_all : (m : MethodKind) (from n : ℕ) (taken waiting : List ℕ) → EndsAnswerIn m taken waiting None → n ≡ from + length (taken ++ waiting) → EndsAnswerFrom m from taken waiting n
+answer_all m from n taken waiting ends is = record { used = length waiting; within = omega arith; is = omega (arith, is, length-append taken waiting); ends = inr (ends, sym (length-append taken waiting)) }
 
 -- what the meters say of the bodies' ends
 pub ask_found : (d : DeskNow) (e : ExchangeNow) (ask : AskWay) (bytes : List ℕ) (r : Option ℕ) (c : IsCarried d e) → e.ask ≡ ask → (ask.state ≡ Bad → BreaksHere c.ask.kind c.ask.way.body d.from.bytes) → bytes ≡ d.from.bytes

@@ -20,7 +20,8 @@ use Rattle.hx_frame.specs.Meters.{MeterFits, IsProperPart, NoBodyBegins, FeedSay
 use Rattle.hx_frame.proofs.EndLemmas.{one_body_end, one_request_end, interims_more, one_final_body}
 use Rattle.hx_session_parts.specs.OnWay.{IsAskOnWay, IsAnswerOnWay}
 use Rattle.hx_session_parts.proofs.OnWayLemmas.{short_more, begins_interims, short_interims_more}
-use Rattle.hx_session.specs.Cutting.{BreaksHere, EndsBodyIn, EndsAsk}
+use Rattle.hx_session.specs.Breaking.{BreaksHere}
+use Rattle.hx_session.specs.Cutting.{EndsBodyIn, EndsAsk}
 
 -- a body behind which more bytes belong to a body runs to the end
 proper_none : (kind : BodyKind) (front more : List ℕ) → IsBody kind front → IsBody kind (front ++ more) → 0 < length more → kind ≡ ToEnd

@@ -6,6 +6,7 @@ use Rattle.hx_link.specs.declared.answers.Put.TheVariants as put
 use Rattle.hx_link.specs.Told.{LinkState}
 use Rattle.hx_link.specs.Links.{LinkReads, LinkWrites}
 use Rattle.hx_link.specs.Pipes.{pipe}
+use Rattle.hx_session.proofs.BreakLemmas.{going_unbroken}
 use Rattle.hx_session.specs.declared.moves.Move.{Move}
 use Rattle.hx_session.specs.declared.moves.Move.TheVariants.{Idle, Bytes, Waits, Ended, Failed}
 use Rattle.hx_session.specs.Since.{HasSince}
@@ -123,6 +124,7 @@ stands_end d (Exchanging e) l desk taken taken_count sent sent_count wants c = r
     close = c.ask.close;
     written = c.ask.written;
     done = c.ask.done;
+    breaks = c.ask.breaks;
   };
   answer = record {
     taken = c.answer.taken;
@@ -133,6 +135,7 @@ stands_end d (Exchanging e) l desk taken taken_count sent sent_count wants c = r
     gives = since_same d.client.sent l.sent d.client.sent_count l.sent_count d.gave_from c.answer.gave sent sent_count c.answer.gives;
     back = c.answer.back;
     answered = c.answer.answered;
+    breaks = c.answer.breaks;
   };
   ended = c.ended;
   open_ = c.open_;
@@ -182,6 +185,7 @@ stands_more d (Exchanging e) l more now desk r wants c =
         close = c.ask.close;
         written = c.ask.written;
         done = c.ask.done;
+        breaks = going_unbroken c.ask.kind e.ask.state c.ask.way.body (d.from.bytes ++ more) wants;
       };
       answer = record {
         taken = c.answer.taken;
@@ -192,6 +196,7 @@ stands_more d (Exchanging e) l more now desk r wants c =
         gives = since_same d.client.sent l.sent d.client.sent_count l.sent_count d.gave_from c.answer.gave sends.0 sends.1 c.answer.gives;
         back = c.answer.back;
         answered = c.answer.answered;
+        breaks = c.answer.breaks;
       };
       ended = c.ended;
       open_ = c.open_;

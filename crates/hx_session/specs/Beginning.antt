@@ -12,6 +12,7 @@ use Rattle.hx_connecting.specs.Choice.{Chooses}
 use Rattle.hx_connecting.specs.Closing.{AtSeat}
 use Rattle.hx_connecting.specs.Sessions as seen
 use Rattle.hx_frame.specs.declared.meter.Meter.{Meter}
+use Rattle.hx_frame.specs.declared.progress.MeterState.TheVariants.{Bad}
 use Rattle.hx_frame.specs.Meters.{HasUsed, state_of}
 use Rattle.hx_session.specs.declared.exchange.AnswerWay.TheVariants.{Heads}
 use Rattle.hx_session.specs.Desks.{DeskNow}
@@ -55,3 +56,4 @@ pub record BeginsExchange (a : Asked) (busy : BusyNow) (meter : Meter) (e : Exch
   pub written : e.ask.written ≡ false
   pub state : e.ask.state ≡ state_of e.ask.meter
   pub used : HasUsed a.kind [] meter → HasUsed a.kind [] e.ask.meter
+  pub good : (state_of meter ≡ Bad → ⊥) → e.ask.state ≡ Bad → ⊥

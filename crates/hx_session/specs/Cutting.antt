@@ -1,22 +1,12 @@
 -- Where the ranges of a record end whose exchange is cut off.
 use Rattle.std.specs.Prelude.{◌≡◌, ℕ, ◌+◌, ◌<◌, ◌≤◌, List, ◌++◌, length, take, Option, Some, None, ◌-◌, Bool, true, false, ⊤}
-use Rattle.hx_frame.specs.Meters.{NoBodyBegins}
 use Rattle.hx_message.specs.declared.MethodKind.{MethodKind}
 use Rattle.hx_message.specs.declared.BodyKind.{BodyKind}
 use Rattle.hx_message.specs.declared.BodyKind.TheVariants.{ToEnd}
 use Rattle.hx_message.specs.Body.{IsBody}
-use Rattle.hx_frame.specs.declared.progress.MeterState.TheVariants.{Bad}
 use Rattle.hx_session_parts.specs.OnWay.{AreInterimsOnWay}
-use Rattle.hx_session.specs.declared.exchange.AnswerWay.{AnswerWay}
-use Rattle.hx_session.specs.declared.exchange.AnswerWay.TheVariants.{Heads, Body}
-use Rattle.hx_session.specs.Answering.{CarriesAnswer}
 use Rattle.hx_session.specs.Desks.{DeskNow}
 use Rattle.hx_message.specs.Partial.{EndsRequest, EndsAnswer, HasShortAnswer}
-
--- behind these bytes of a body the first byte that waits is one after which no body of that kind follows
-pub record BreaksHere (kind : BodyKind) (body waiting : List ℕ) : Type 0 where
-  pub some : 0 < length waiting
-  pub none : NoBodyBegins kind (body ++ take 1 waiting)
 
 -- so many of the bytes that wait end a body that tells its own end; without a number none of its fronts is one
 abbrev pub EndsBodyIn : BodyKind → List ℕ → List ℕ → Option ℕ → Type 0
@@ -51,17 +41,16 @@ pub record DropsHeads (old new : List ℕ) : Type 0 where
   pub is : old ≡ heads ++ new
   pub on : (taken put : List ℕ) → AreInterimsOnWay taken put → (more : List ℕ) × AreInterimsOnWay (taken ++ heads) more
 
--- where the body of an answer that is carried is bad, the next byte that waits breaks it
-abbrev pub BreaksCarried : (a : AnswerWay) (wants written : Bool) (m : MethodKind) (taken put waiting : List ℕ) → CarriesAnswer a wants written m taken put → Type 0
-BreaksCarried Heads wants written m taken put waiting c = ⊤
-BreaksCarried (Body b) wants written m taken put waiting c = b.state ≡ Bad → BreaksHere c.kind c.way.body waiting
-
 -- the request of which that was taken, and of which the pipe has the rest, ends at that byte of the client
 pub record EndsAskAt (d : DeskNow) (taken : List ℕ) (n : ℕ) : Type 0 where
-  pub from : d.ask_from ≤ n
-  pub ends : EndsRequest (taken ++ d.from.bytes) (n - d.ask_from)
+  pub used : ℕ
+  pub within : used ≤ length d.from.bytes
+  pub is : n ≡ d.ask_from + length taken + used
+  pub ends : EndsRequest (taken ++ d.from.bytes) (length taken + used)
 
 -- the same of an answer on its connection
-pub record EndsAnswerFrom (m : MethodKind) (from : ℕ) (bytes : List ℕ) (n : ℕ) : Type 0 where
-  pub behind : from ≤ n
-  pub ends : EndsAnswer m bytes (n - from)
+pub record EndsAnswerFrom (m : MethodKind) (from : ℕ) (taken waiting : List ℕ) (n : ℕ) : Type 0 where
+  pub used : ℕ
+  pub within : used ≤ length waiting
+  pub is : n ≡ from + length taken + used
+  pub ends : EndsAnswer m (taken ++ waiting) (length taken + used)

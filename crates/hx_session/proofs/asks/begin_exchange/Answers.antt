@@ -15,7 +15,7 @@ returns-clause-placed g c = λ seats n at.
     let spelled = c.in-Some.ensures.spelled in
     let a = c.args.asked.now in
     let carried : IsCarried (record d { from = from; up = up }) e =
-    begins_carried d a c.args.busy c.in-Some.meter e from up c.requires.between c.requires.asked c.requires.begins c.nth-nth.ensures.meaning.counted c.begin.ensures spelled.0 spelled.1 in
+    begins_carried d a c.args.busy c.in-Some.meter e from up c.requires.between c.requires.asked c.requires.begins c.nth-nth.ensures.meaning.counted c.begin.ensures spelled.0 spelled.1 c.in-Some.ensures.good in
     begun_placed d (record d { from = from; up = up }) c.args.busy e a c.in-Some.meter seats from up refl carried c.requires.begins c.begin.ensures n at
 
 pub returns-clause-routed : goal.returns-clause-routed

@@ -1,4 +1,4 @@
-use Rattle.std.proofs.Common.{◌≡◌, ℕ, List, [], take, refl, subst, zero, suc}
+use Rattle.std.proofs.Common.{◌≡◌, ℕ, List, [], take, refl, sym, ◌∙◌, subst, zero, suc}
 use Rattle.hx_frame.specs.Meters.{HasUsed}
 use Rattle.hx_session.proofs.exchange.Exchange.begin.Goals as goal
 
@@ -18,5 +18,6 @@ returns g c = record {
   wants = refl;
   written = refl;
   state = c.feed-state.ensures.state;
+  good = λ fine bad. fine (sym (c.feed-state.ensures.nothing refl) ∙ bad);
   used = λ u. subst (λ (xs : List ℕ). HasUsed c.args.asked.now.kind xs c.feed-state.new.self) (take_none c.feed-state.result.used) (c.feed-state.ensures.used c.args.asked.now.kind [] u);
 }
