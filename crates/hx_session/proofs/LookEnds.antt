@@ -226,24 +226,28 @@ lost_in m taken old new d = d.none refl
 pub ask_at : (d : DeskNow) (e : ExchangeNow) (n used : ℕ) (c : IsCarried d e) → EndsBodyIn c.ask.kind c.ask.way.body d.from.bytes (Some used) → n + length d.from.bytes ≡ d.taken + used → EndsAskAt d c.ask.taken n
 ask_at d e n used c ends is =
     let a = c.ask in
-    let size : n ≡ d.ask_from + (length a.taken + used) = omega (arith, is, a.front.count, c.desk.taken, length-append a.taken d.from.bytes) in
-    let rest : n - d.ask_from ≡ length a.taken + used = omega (arith, size) in
-    record { from = omega (arith, size); ends = subst (λ (k : ℕ). EndsRequest (a.taken ++ d.from.bytes) k) (sym rest) (ask_ended a.taken a.put d.from.bytes a.head a.kind e.ask.meter used a.way ends).ends }
+    record {
+      used = used;
+      within = ends.0;
+      is = omega (arith, is, a.front.count, c.desk.taken, length-append a.taken d.from.bytes);
+      ends = (ask_ended a.taken a.put d.from.bytes a.head a.kind e.ask.meter used a.way ends).ends;
+    }
 
 pub ask_all : (d : DeskNow) (e : ExchangeNow) (n : ℕ) (c : IsCarried d e) → EndsBodyIn c.ask.kind c.ask.way.body d.from.bytes None → n ≡ d.taken → EndsAskAt d c.ask.taken n
 ask_all d e n c ends is =
     let a = c.ask in
-    let size : n ≡ d.ask_from + (length a.taken + length d.from.bytes) = omega (arith, is, a.front.count, c.desk.taken, length-append a.taken d.from.bytes) in
-    let rest : n - d.ask_from ≡ length a.taken + length d.from.bytes = omega (arith, size) in
-    record { from = omega (arith, size); ends = subst (λ (k : ℕ). EndsRequest (a.taken ++ d.from.bytes) k) (sym rest) (ask_cut a.taken a.put d.from.bytes a.head a.kind e.ask.meter a.way ends).ends }
+    record {
+      used = length d.from.bytes;
+      within = omega arith;
+      is = omega (arith, is, a.front.count, c.desk.taken, length-append a.taken d.from.bytes);
+      ends = (ask_cut a.taken a.put d.from.bytes a.head a.kind e.ask.meter a.way ends).ends;
+    }
 
-pub answer_at : (m : MethodKind) (from n used : ℕ) (taken waiting : List ℕ) → EndsAnswerIn m taken waiting (Some used) → n ≡ from + length taken + used → EndsAnswerFrom m from (taken ++ waiting) n
-answer_at m from n used taken waiting ends is =
-    let rest : n - from ≡ length taken + used = omega (arith, is) in
-    record { behind = omega (arith, is); ends = inl (subst (λ (k : ℕ). HasShortAnswer m (taken ++ waiting) k) (sym rest) ends.1) }
+pub answer_at : (m : MethodKind) (from n used : ℕ) (taken waiting : List ℕ) → EndsAnswerIn m taken waiting (Some used) → n ≡ from + length taken + used → EndsAnswerFrom m from taken waiting n
+answer_at m from n used taken waiting ends is = record { used = used; within = ends.0; is = is; ends = inl ends.1 }
 
-pub answer_all : (m : MethodKind) (from n : ℕ) (taken waiting : List ℕ) → EndsAnswerIn m taken waiting None → n ≡ from + length (taken ++ waiting) → EndsAnswerFrom m from (taken ++ waiting) n
-answer_all m from n taken waiting ends is = record { behind = omega (arith, is); ends = inr (ends, omega (arith, is)) }
+pub answer_all : (m : MethodKind) (from n : ℕ) (taken waiting : List ℕ) → EndsAnswerIn m taken waiting None → n ≡ from + length (taken ++ waiting) → EndsAnswerFrom m from taken waiting n
+answer_all m from n taken waiting ends is = record { used = length waiting; within = omega arith; is = omega (arith, is, length-append taken waiting); ends = inr (ends, sym (length-append taken waiting)) }
 
 -- what the meters say of the bodies' ends
 pub ask_found : (d : DeskNow) (e : ExchangeNow) (ask : AskWay) (bytes : List ℕ) (r : Option ℕ) (c : IsCarried d e) → e.ask ≡ ask → (ask.state ≡ Bad → BreaksHere c.ask.kind c.ask.way.body d.from.bytes) → bytes ≡ d.from.bytes

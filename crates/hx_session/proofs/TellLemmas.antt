@@ -135,13 +135,16 @@ of_exchange e f d0 d why r (kind.Passed c) same client h = (
   },
   told_back d0.client d.client e.busy.link f.busy.link why r client same.link h.1,
 )
-of_exchange e f d0 d why r (kind.Cut c w) same client h = record {
-  server = h.server ∙ same.server;
-  id = h.id ∙ same.id;
-  nth = h.nth ∙ ap (λ (n : ℕ). n + 1) same.uses;
-  sent = h.sent ∙ same.sent_from;
-  took = h.took ∙ same.taken_from;
-}
+of_exchange e f d0 d why r (kind.Cut c w) same client h = (
+  record {
+    server = h.0.server ∙ same.server;
+    id = h.0.id ∙ same.id;
+    nth = h.0.nth ∙ ap (λ (n : ℕ). n + 1) same.uses;
+    sent = h.0.sent ∙ same.sent_from;
+    took = h.0.took ∙ same.taken_from;
+  },
+  told_back d0.client d.client e.busy.link f.busy.link why r client same.link h.1,
+)
 of_exchange e f d0 d why r (kind.Own status) same client h = absurd h
 
 of_answering : (a : AnsweringNow) (d0 d : DeskNow) (why : LeftCause) (r : Served) (k : Kind) → CarriesSame d0.client d.client
@@ -287,7 +290,8 @@ cut_one d d1 d2 e w r k is =
     (record { worker = refl; session = refl; number = refl; ask = refl; gave = refl; next = refl; asked = refl; given = refl; client = link_same d.client }))
 
 pub cut_of : (d d1 : DeskNow) (e : ExchangeNow) (w : CutCause) (r : Served) (why : LeftCause) → CutsOff d d1 e w r → IsOfStage (Exchanging e) d why r r.kind
-cut_of d d1 e w r why k = subst (λ (x : Served). IsOfStage (Exchanging e) d why x x.kind) (sym k.served) (record { server = refl; id = refl; nth = refl; sent = refl; took = refl })
+cut_of d d1 e w r why k =
+    subst (λ (x : Kind). IsOfStage (Exchanging e) d why r x) (sym (ap (λ (x : Served). x.kind) k.served)) (record { server = refl; id = refl; nth = refl; sent = refl; took = refl }, k.told why)
 
 cut_finished : (d d1 d2 : DeskNow) (e : ExchangeNow) (w : CutCause) (r : Served) → CutsOff d d1 e w r → d2 ≡ emptied d1 → d2.client.finished ≡ d.client.finished
 cut_finished d d1 d2 e w r k is = ap (λ (x : DeskNow). x.client.finished) (is ∙ ap emptied k.desk)

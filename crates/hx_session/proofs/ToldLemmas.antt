@@ -42,7 +42,10 @@ kind_told front d d' (Exchanging e) s' why r (kind.Passed c) is same h own = (
   (e.busy, refl, h.0),
   told_stands s'.client e.busy.link why r (subst (λ (l : LinkState). IsTold l e.busy.link why r) (sym is) (told_on d.client d'.client e.busy.link why r same h.1)),
 )
-kind_told front d d' (Exchanging e) s' why r (kind.Cut c w) is same h own = (e.busy, refl, h)
+kind_told front d d' (Exchanging e) s' why r (kind.Cut c w) is same h own = (
+  (e.busy, refl, h.0),
+  told_stands s'.client e.busy.link why r (subst (λ (l : LinkState). IsTold l e.busy.link why r) (sym is) (told_on d.client d'.client e.busy.link why r same h.1)),
+)
 kind_told front d d' (Exchanging e) s' why r (kind.Own status) is same h own = absurd h
 kind_told front d d' (Answering a) s' why r (kind.Passed c) is same h own = absurd h
 kind_told front d d' (Answering a) s' why r (kind.Cut c w) is same h own = absurd h

@@ -43,10 +43,14 @@ pub record DropsHeads (old new : List ℕ) : Type 0 where
 
 -- the request of which that was taken, and of which the pipe has the rest, ends at that byte of the client
 pub record EndsAskAt (d : DeskNow) (taken : List ℕ) (n : ℕ) : Type 0 where
-  pub from : d.ask_from ≤ n
-  pub ends : EndsRequest (taken ++ d.from.bytes) (n - d.ask_from)
+  pub used : ℕ
+  pub within : used ≤ length d.from.bytes
+  pub is : n ≡ d.ask_from + length taken + used
+  pub ends : EndsRequest (taken ++ d.from.bytes) (length taken + used)
 
 -- the same of an answer on its connection
-pub record EndsAnswerFrom (m : MethodKind) (from : ℕ) (bytes : List ℕ) (n : ℕ) : Type 0 where
-  pub behind : from ≤ n
-  pub ends : EndsAnswer m bytes (n - from)
+pub record EndsAnswerFrom (m : MethodKind) (from : ℕ) (taken waiting : List ℕ) (n : ℕ) : Type 0 where
+  pub used : ℕ
+  pub within : used ≤ length waiting
+  pub is : n ≡ from + length taken + used
+  pub ends : EndsAnswer m (taken ++ waiting) (length taken + used)

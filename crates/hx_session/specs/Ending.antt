@@ -1,9 +1,10 @@
 -- How an exchange and a session end.
-use Rattle.std.specs.Prelude.{◌≡◌, ℕ, ◌≤◌, List, [], Some, None, ⊤}
+use Rattle.std.specs.Prelude.{◌≡◌, ℕ, true, ◌≤◌, List, [], Some, None, ⊤}
 use Rattle.hx_base.specs.declared.numbers.SessionNo.{SessionNo}
 use Rattle.hx_record.specs.declared.served.CutCause.{CutCause}
 use Rattle.hx_record.specs.declared.served.Kind.TheVariants.{Cut}
 use Rattle.hx_record.specs.declared.served.Served.{Served}
+use Rattle.hx_record.specs.declared.served.LeftCause.{LeftCause}
 use Rattle.hx_record.specs.declared.served.LeftCause.TheVariants as cause
 use Rattle.hx_pool.specs.SeatView.{History}
 use Rattle.hx_pool.specs.Opening.{HasConn}
@@ -15,7 +16,8 @@ use Rattle.hx_message.specs.OwnAnswer.{HasReason, IsOwnAnswer}
 use Rattle.hx_session.specs.Since.{HasSince}
 use Rattle.hx_session.specs.Desks.{DeskNow, emptied}
 use Rattle.hx_session.specs.Exchanged.{ExchangeNow}
-use Rattle.hx_session.specs.Over.{served_of, carried_of, after_record}
+use Rattle.hx_session.specs.Over.{served_of, carried_of, after_record, early_of, IsTold}
+use Rattle.hx_session.specs.Finishing.{IsAnswerGiven}
 use Rattle.hx_session.specs.Stages.{StageNow, Reading, Choosing, Exchanging, Answering, Left}
 
 -- the session has at its seat the connection of its stage
@@ -40,12 +42,18 @@ pub record AnswersOwn (old new : DeskNow) (status : ℕ) : Type 0 where
   pub own : IsOwnAnswer status text
   pub desk : new ≡ record (emptied old) { to = pipe text old.to.capacity; waits_since = new.waits_since }
 
+-- only an early answer that was given whole is cut off as early
+pub record EndsEarly (d : DeskNow) (e : ExchangeNow) : Type 0 where
+  pub whole : IsAnswerGiven d e
+  pub early : early_of e.answer ≡ true
+
 -- the record of an exchange that was cut off, and the next one's beginning
 pub record CutsOff (old new : DeskNow) (e : ExchangeNow) (why : CutCause) (s : Served) : Type 0 where
   pub took_to : ℕ
   pub ask_to : ℕ
   pub within : ask_to ≤ old.taken
   pub served : s ≡ served_of old (Cut (carried_of e took_to) why) ask_to
+  pub told : (leaves : LeftCause) → IsTold old.client e.busy.link leaves s
   pub desk : new ≡ record (after_record old ask_to) { down = new.down }
 
 -- the step is over, and the session leaves after such a record

@@ -87,10 +87,10 @@ pub record TellsOne (d d' : DeskNow) (r : Served) : Type 0 where
 abbrev pub IsToldOwn : LinkState → LeftCause → Served → Type 0
 IsToldOwn client why r = WhereTold (what_of_link client).told (λ x. RecountsBytes r.kind r x no_carriage why)
 
--- at which stage a record of each kind is given, and that it is true there; of a cut one only whose it is
+-- at which stage a record of each kind is given, and that it is true there
 abbrev pub IsOfStage : StageNow → DeskNow → LeftCause → Served → Kind → Type 0
 IsOfStage (Exchanging e) d why r (kind.Passed c) = IsOfExchange e.busy c × IsTold d.client e.busy.link why r
-IsOfStage (Exchanging e) d why r (kind.Cut c w) = IsOfExchange e.busy c
+IsOfStage (Exchanging e) d why r (kind.Cut c w) = IsOfExchange e.busy c × IsTold d.client e.busy.link why r
 IsOfStage (Answering a) d why r (kind.Own status) = (status ≡ a.status) × IsToldOwn d.client why r
 IsOfStage s d why r k = ⊥
 
@@ -171,11 +171,10 @@ abbrev pub conn_told : Option Holding → Option What
 conn_told None = None
 conn_told (Some c) = Some (what_of_link (conn_link c))
 
--- a record of each kind is true of the client's link as the call leaves it, and of what the connection's tells; of a cut one only whose
--- it is
+-- a record of each kind is true of the client's link as the call leaves it, and of what the connection's tells
 abbrev pub KindTold : SessionNow → SessionNow → Option What → LeftCause → Served → Kind → Type 0
 KindTold s s' conn why r (kind.Passed c) = KindStands s s' conn why r (kind.Passed c)
-KindTold s s' conn why r (kind.Cut c w) = ItsExchange s c
+KindTold s s' conn why r (kind.Cut c w) = KindStands s s' conn why r (kind.Cut c w)
 KindTold s s' conn why r (kind.Own status) = KindStands s s' conn why r (kind.Own status)
 
 pub record RecordTold (s s' : SessionNow) (conn : Option What) (left : Option Leave) (r : Served) : Type 0 where

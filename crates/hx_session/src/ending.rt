@@ -20,7 +20,8 @@ ghost use Rattle.hx_session.specs.Desks.{desk_now, IsDesk};
 ghost use Rattle.hx_session.specs.Exchanged.{exchange_now};
 ghost use Rattle.hx_session.specs.Over.{served_of, after_record};
 ghost use Rattle.hx_session.specs.Stages.{Exchanging, StandsSo, own_stage, stage_of_answering, stage_now};
-ghost use Rattle.hx_session.specs.Ending.{CutsOff, EndsInCut, HasOwnText, AnswersOwn};
+ghost use Rattle.hx_record.specs.declared.served.CutCause.TheVariants.{Early};
+ghost use Rattle.hx_session.specs.Ending.{EndsEarly, CutsOff, EndsInCut, HasOwnText, AnswersOwn};
 ghost use Rattle.hx_session.specs.Standing.{IsCounted, IsLeaving, IsPlaced, IsSet, KeepsPlace, Goes};
 ghost use Rattle.hx_link.specs.Told.{most_bytes};
 ghost use Rattle.hx_session.specs.Records.{cut_ends};
@@ -122,6 +123,7 @@ pub(crate) fn cut_off<L: Link, S: Seat<Rested<L>>, N: Net<L = L>>(
     net: &mut N,
     cause: CutCause,
 ) -> Served
+    requires early { cause ≡ Early → EndsEarly (desk_now L.state desk.old) (exchange_now exchange) }
     requires set { IsSet (desk_now L.state desk.old) (Exchanging (exchange_now exchange)) (map S.history seats.old) }
     ensures rooms { RoomsStay S.history (room_of S.kept_from S.spare) seats.old seats.new }
     ensures cuts { CutsOff (desk_now L.state desk.old) (desk_now L.state desk.new) (exchange_now exchange) cause result }
@@ -149,6 +151,7 @@ pub(crate) fn cut<L: Link, S: Seat<Rested<L>>, N: Net<L = L>>(
     net: &mut N,
     cause: CutCause,
 ) -> Came<L>
+    requires early { cause ≡ Early → EndsEarly (desk_now L.state desk.old) (exchange_now exchange) }
     requires ends { cut_ends cause ≡ left_cause.Cut }
     requires set { IsSet (desk_now L.state desk.old) (Exchanging (exchange_now exchange)) (map S.history seats.old) }
     ensures rooms { RoomsStay S.history (room_of S.kept_from S.spare) seats.old seats.new }
@@ -199,6 +202,7 @@ pub(crate) fn end_by_server<L: Link, S: Seat<Rested<L>>, N: Net<L = L>>(
 ) -> Came<L>
     requires known { HasOwnText why.1.status }
     requires ends { cut_ends why.0 ≡ left_cause.Cut }
+    requires timely { why.0 ≡ Early → ⊥ }
     requires set { IsSet (desk_now L.state desk.old) (Exchanging (exchange_now exchange)) (map S.history seats.old) }
     ensures rooms { RoomsStay S.history (room_of S.kept_from S.spare) seats.old seats.new }
     ensures goes { Goes (desk_now L.state desk.old) (Exchanging (exchange_now exchange)) (map S.history seats.old) (N.state net.old)
@@ -227,6 +231,7 @@ pub(crate) fn lose_server<L: Link, S: Seat<Rested<L>>, N: Net<L = L>>(
 ) -> Came<L>
     requires known { HasOwnText why.1.status }
     requires ends { cut_ends why.0 ≡ left_cause.Cut }
+    requires timely { why.0 ≡ Early → ⊥ }
     requires set { IsSet (desk_now L.state desk.old) (Exchanging (exchange_now exchange)) (map S.history seats.old) }
     ensures rooms { RoomsStay S.history (room_of S.kept_from S.spare) seats.old seats.new }
     ensures goes { Goes (desk_now L.state desk.old) (Exchanging (exchange_now exchange)) (map S.history seats.old) (N.state net.old)
