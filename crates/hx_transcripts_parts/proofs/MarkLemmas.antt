@@ -1,5 +1,5 @@
 -- The lines of marks and the rules of servers are read back.
-use Rattle.std.proofs.Common.{◌≡◌, ℕ, ◌≤◌, Bool, true, false, List, [], ◌∷◌, ◌++◌, Some, None, Result, Ok, refl, sym, ap, subst, ◌∙◌, append_assoc, arith}
+use Rattle.std.proofs.Common.{◌≡◌, ℕ, ◌≤◌, Bool, true, false, List, [], ◌∷◌, ◌++◌, None, Ok, refl, sym, subst, ◌∙◌, append_assoc, arith}
 use Rattle.std.specs.Prelude.{codes, decimal, ⊤}
 use Rattle.std.proofs.lemmas.List.{append-nil}
 use Rattle.hx_base.specs.declared.numbers.ThreadNo.{ThreadNo}
@@ -8,24 +8,23 @@ use Rattle.hx_base.specs.declared.numbers.ConnId.{ConnId}
 use Rattle.hx_base.specs.declared.numbers.PlaceNo.{PlaceNo}
 use Rattle.hx_pool.specs.declared.entries.Entry.{Entry}
 use Rattle.hx_pool.specs.declared.entries.Entry.TheVariants as entry
-use Rattle.hx_script.specs.MarkLines.{who, who_conn, place_text, place_uses, first_text, gate_text, round_line, mark_line}
+use Rattle.hx_script.specs.MarkLines.{who, who_conn, place_text, first_text, gate_text, round_line, mark_line}
 use Rattle.hx_script.specs.PrintedForm.{IsToldMark}
-use Rattle.hx_transcripts_parts.specs.declared.fault.Rule.{Rule}
 use Rattle.hx_transcripts_parts.specs.declared.keywords.MarkWord.{MarkWord}
 use Rattle.hx_transcripts_parts.specs.declared.keywords.MarkWord.TheVariants as mark
 use Rattle.hx_transcripts_parts.specs.Faults.{◌>>=◌}
 use Rattle.hx_transcripts_parts.specs.Keywords.{gate_words}
-use Rattle.hx_transcripts_parts.specs.Lexical.{Rest, rest_text, read_word, at_end}
+use Rattle.hx_transcripts_parts.specs.Lexical.{Rest, read_word, at_end}
 use Rattle.hx_transcripts_parts.specs.Marks.{one_of, who_conn_at, rest_at, open_at, park_at, first_in, take_at, close_at, gate_at, round_at, mark_at}
-use Rattle.hx_transcripts_parts.specs.MarkLaws.{mark_text, FitsMark, IsMarkLine, IsMarkRead}
+use Rattle.hx_transcripts_parts.specs.MarkLaws.{FitsMark, IsMarkLine, IsMarkRead}
 use Rattle.hx_transcripts_parts.specs.Numbers.{number_in, most_8, most_16, most_64}
 use Rattle.hx_transcripts_parts.specs.Pieces.{who_in, place_in}
 use Rattle.hx_transcripts_parts.specs.ReadBack.{ReadsNext, FitsWho, FitsPlace}
-use Rattle.hx_transcripts_parts.proofs.WordLemmas.{ok_is, bind_is, word_reads}
+use Rattle.hx_transcripts_parts.proofs.WordLemmas.{bind_is, word_reads}
 use Rattle.hx_transcripts_parts.proofs.NumberLemmas.{number_reads}
 use Rattle.hx_transcripts_parts.proofs.PieceLemmas.{who_reads, place_reads}
 use Rattle.hx_transcripts_parts.proofs.TableLemmas.{either, gates_read, first_reads}
-use Rattle.hx_transcripts_parts.proofs.LineLemmas.{IsNext, next_sound, last_sound, two_read}
+use Rattle.hx_transcripts_parts.proofs.LineLemmas.{next_sound, last_sound, two_read}
 
 abbrev Id : Type 0
 Id = ThreadNo × SessionNo × ConnId

@@ -1,5 +1,5 @@
 -- The lines of records are read back.
-use Rattle.std.proofs.Common.{◌≡◌, ℕ, ◌<◌, ◌≤◌, Bool, true, false, List, [], ◌∷◌, ◌++◌, length, Some, None, Result, Ok, refl, sym, ap, subst, ◌∙◌, append_assoc, arith}
+use Rattle.std.proofs.Common.{◌≡◌, ℕ, ◌<◌, ◌≤◌, Bool, true, false, List, [], ◌∷◌, ◌++◌, length, None, Result, Ok, refl, subst, ◌∙◌, append_assoc, arith}
 use Rattle.std.specs.Prelude.{codes, decimal, ⊤}
 use Rattle.std.proofs.lemmas.List.{append-nil}
 use Rattle.hx_base.specs.declared.numbers.ThreadNo.{ThreadNo}
@@ -20,7 +20,7 @@ use Rattle.hx_record.specs.declared.served.Told.TheVariants as told
 use Rattle.hx_script.specs.declared.transcript.ServerPart.{ServerPart}
 use Rattle.hx_script.specs.MarkLines.{who}
 use Rattle.hx_script.specs.PrintedForm.{IsToldRecord}
-use Rattle.hx_script.specs.RecordLines.{span_text, conn_text, closing_text, cut_closing_text, cut_text, link_ranges, carried_text, begin_text, cause_text, record_line}
+use Rattle.hx_script.specs.RecordLines.{span_text, conn_text, closing_text, cut_closing_text, cut_text, carried_text, cause_text, record_line}
 use Rattle.hx_transcripts_parts.specs.declared.fault.Rule.{Rule}
 use Rattle.hx_transcripts_parts.specs.declared.keywords.RecordWord.{RecordWord}
 use Rattle.hx_transcripts_parts.specs.declared.keywords.RecordWord.TheVariants as first
@@ -28,17 +28,17 @@ use Rattle.hx_transcripts_parts.specs.declared.records.Begin.{Begin}
 use Rattle.hx_transcripts_parts.specs.declared.records.Exchange.{Exchange}
 use Rattle.hx_transcripts_parts.specs.Faults.{◌>>=◌}
 use Rattle.hx_transcripts_parts.specs.Keywords.{closing_words, cut_closing_words, left_words}
-use Rattle.hx_transcripts_parts.specs.Lexical.{Rest, rest_text, read_word, is_word, is_inside, at_end}
+use Rattle.hx_transcripts_parts.specs.Lexical.{Rest, rest_text, read_word, is_word, at_end}
 use Rattle.hx_transcripts_parts.specs.Marks.{one_of}
 use Rattle.hx_transcripts_parts.specs.Numbers.{number_in, most_16, most_32, most_64}
 use Rattle.hx_transcripts_parts.specs.Pieces.{who_in, span_in, range_at, conn_in}
 use Rattle.hx_transcripts_parts.specs.ReadBack.{ReadsNext, FitsWho, FitsSpan, FitsConn, AreNamed}
-use Rattle.hx_transcripts_parts.specs.RecordLaws.{record_text, FitsCarried, FitsKind, FitsTold, IsRecordLine, IsRecordRead}
+use Rattle.hx_transcripts_parts.specs.RecordLaws.{FitsCarried, FitsKind, FitsTold, IsRecordLine, IsRecordRead}
 use Rattle.hx_transcripts_parts.specs.Records.{begin_at, exchange_at, carried, served, pass_at, cause_in, cut_at, own_at, left_at, record_at}
 use Rattle.hx_transcripts_parts.proofs.WordLemmas.{ok_is, bind_is, word_reads, word_is}
 use Rattle.hx_transcripts_parts.proofs.PieceLemmas.{who_reads, span_reads, conn_reads}
 use Rattle.hx_transcripts_parts.proofs.TableLemmas.{either, closings_read, cut_closings_read, lefts_read, cause_reads}
-use Rattle.hx_transcripts_parts.proofs.LineLemmas.{IsNext, next_sound, last_sound, two_read, label_read}
+use Rattle.hx_transcripts_parts.proofs.LineLemmas.{next_sound, last_sound, two_read, label_read}
 use Rattle.hx_transcripts_parts.proofs.MarkLemmas.{next_number}
 
 -- ---- parts

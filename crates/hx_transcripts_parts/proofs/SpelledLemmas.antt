@@ -1,5 +1,5 @@
 -- What the call that reads a byte text tells of its one spelling.
-use Rattle.std.proofs.Common.{◌≡◌, ℕ, List, ◌++◌, Option, Some, None, Result, Ok, Err, refl, sym, ap, ◌∙◌}
+use Rattle.std.proofs.Common.{◌≡◌, ℕ, List, Option, Some, None, Result, Ok, Err, refl, sym, ap, ◌∙◌}
 use Rattle.hx_script_parts.specs.ByteText.{quoted, BeginsQuoted, NoQuoted}
 use Rattle.hx_script_parts.specs.QuotedReading.{quoted_at}
 use Rattle.hx_script_parts.proofs.ByteTextLemmas.{read_at_front, found_at_front}

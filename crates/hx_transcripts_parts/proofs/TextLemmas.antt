@@ -1,14 +1,12 @@
 -- Byte texts in their one spelling are read back.
-use Rattle.std.proofs.Common.{◌≡◌, ℕ, ◌+◌, ◌*◌, ◌<◌, ◌≤◌, Bool, true, false, cond, ◌&&◌, List, [], ◌∷◌, ◌++◌, map, All, Option, Some, None, Result, Ok, Err, refl, sym, ap, ap₂, subst, ◌∙◌, append_assoc, arith, inl, inr}
-use Rattle.std.specs.Prelude.{◌==◌, nat_le, not, codes, ⊤}
+use Rattle.std.proofs.Common.{◌≡◌, ℕ, ◌&&◌, List, [], ◌∷◌, ◌++◌, map, All, Some, None, Ok, Err, refl, sym, ap, ap₂, subst, ◌∙◌, arith, inl, inr}
+use Rattle.std.specs.Prelude.{◌==◌, nat_le, not}
 use Rattle.std.proofs.lemmas.Bool.{cases_Bool, cond-true, cond-false, eqb-true, and_parts, leb-true}
-use Rattle.std.proofs.lemmas.List.{append-nil}
 use Rattle.std.proofs.lemmas.List.Elements.{All-nil, All-cons, All-head, All-tail}
 use Rattle.hx_script.specs.Numbers.{IsByte}
-use Rattle.hx_script_parts.specs.ByteText.{Letter, plain, escape, cr, lf, hex, is_plain, IsLetter, byte_of, quoted}
+use Rattle.hx_script_parts.specs.ByteText.{Letter, plain, escape, cr, lf, hex, IsLetter, byte_of, quoted}
 use Rattle.hx_script_parts.specs.QuotedReading.{quoted_at}
 use Rattle.hx_script_parts.proofs.ByteTextLemmas.{read_at_front, found_at_front, spelling_quotes}
-use Rattle.hx_transcripts_parts.specs.declared.fault.Rule.{Rule}
 use Rattle.hx_transcripts_parts.specs.declared.fault.Rule.TheVariants.{BadText}
 use Rattle.hx_transcripts_parts.specs.Faults.{◌>>=◌, or_broken}
 use Rattle.hx_transcripts_parts.specs.Lexical.{Rest, rest_text, behind_text, text_at}

@@ -1,5 +1,5 @@
 -- The counts of a line of totals and the rules of a server's line are read back.
-use Rattle.std.proofs.Common.{◌≡◌, ℕ, ◌≤◌, List, [], ◌∷◌, ◌++◌, Option, Some, None, Result, Ok, refl, sym, ap, subst, ◌∙◌, append_assoc, arith}
+use Rattle.std.proofs.Common.{◌≡◌, ℕ, ◌≤◌, List, [], ◌∷◌, ◌++◌, Option, None, Ok, refl, subst, ◌∙◌, append_assoc, arith}
 use Rattle.std.specs.Prelude.{codes, decimal, ⊤}
 use Rattle.std.proofs.lemmas.List.{append-nil}
 use Rattle.hx_base.specs.declared.rules.Mode.{Mode}
@@ -7,7 +7,6 @@ use Rattle.hx_base.specs.declared.rules.PoolRules.{PoolRules}
 use Rattle.hx_base.specs.declared.totals.Totals.{Totals}
 use Rattle.hx_script.specs.LinkLines.{totals_text}
 use Rattle.hx_script.specs.MarkLines.{mode_text, max_text}
-use Rattle.hx_transcripts_parts.specs.declared.fault.Rule.{Rule}
 use Rattle.hx_transcripts_parts.specs.Faults.{◌>>=◌}
 use Rattle.hx_transcripts_parts.specs.Keywords.{mode_words}
 use Rattle.hx_transcripts_parts.specs.Lexical.{Rest, rest_text, read_word, is_word, at_end}
@@ -18,7 +17,7 @@ use Rattle.hx_transcripts_parts.specs.Pieces.{count_at}
 use Rattle.hx_transcripts_parts.specs.ReadBack.{ReadsNext, ReadsLine}
 use Rattle.hx_transcripts_parts.specs.RecordLaws.{FitsTotals}
 use Rattle.hx_transcripts_parts.specs.Records.{totals_at}
-use Rattle.hx_transcripts_parts.proofs.WordLemmas.{ok_is, bind_is, word_reads, word_is}
+use Rattle.hx_transcripts_parts.proofs.WordLemmas.{bind_is, word_reads, word_is}
 use Rattle.hx_transcripts_parts.proofs.NumberLemmas.{limit_reads}
 use Rattle.hx_transcripts_parts.proofs.TableLemmas.{modes_read}
 use Rattle.hx_transcripts_parts.proofs.LineLemmas.{next_sound, last_sound, label_read}

@@ -1,5 +1,5 @@
 -- The words of a line.
-use Rattle.std.specs.Prelude.{ℕ, ◌+◌, Bool, not, List, [], ◌∷◌, ◌++◌, length, take, drop, Option, Some, None, Result, Ok, Err, ⊤, if◌then◌else◌, ◌==◌, bytes_eq, codes}
+use Rattle.std.specs.Prelude.{ℕ, not, List, [], ◌∷◌, take, drop, Some, None, Result, Ok, Err, ⊤, if◌then◌else◌, ◌==◌, bytes_eq}
 use Rattle.std.specs.List.{prefix_len}
 pub use Rattle.hx_script_parts.specs.Lexical.{Rest, is_inside, behind_word}
 use Rattle.hx_transcripts_parts.specs.declared.fault.Rule.{Rule}

@@ -9,7 +9,7 @@ use Rattle.std.specs.Prelude.{decimal}
 use Rattle.hx_transcripts_parts.specs.declared.keywords.MarkWord.{MarkWord}
 use Rattle.hx_transcripts_parts.specs.declared.keywords.MarkWord.TheVariants as mark
 use Rattle.hx_transcripts_parts.specs.Lexical.{Rest, rest_text}
-use Rattle.hx_transcripts_parts.specs.Marks.{mark_at, rules_at}
+use Rattle.hx_transcripts_parts.specs.Marks.{mark_at}
 use Rattle.hx_transcripts_parts.specs.Numbers.{most_8, most_16, most_32, most_64}
 use Rattle.hx_transcripts_parts.specs.ReadBack.{FitsWho, FitsPlace}
 

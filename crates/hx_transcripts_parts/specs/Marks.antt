@@ -1,10 +1,9 @@
 -- The line of a server, behind its name, and the lines of marks, behind their first word.
-use Rattle.std.specs.Prelude.{ℕ, Bool, ◌&&◌, List, Option, Some, None, Result, Ok, Err, if◌then◌else◌, ◌==◌}
+use Rattle.std.specs.Prelude.{ℕ, Bool, ◌&&◌, List, Result, Ok, ◌==◌}
 use Rattle.hx_base.specs.declared.numbers.ThreadNo.{ThreadNo}
 use Rattle.hx_base.specs.declared.numbers.SessionNo.{SessionNo}
 use Rattle.hx_base.specs.declared.numbers.ConnId.{ConnId}
 use Rattle.hx_base.specs.declared.numbers.PlaceNo.{PlaceNo}
-use Rattle.hx_base.specs.declared.rules.Mode.{Mode}
 use Rattle.hx_base.specs.declared.rules.PoolRules.{PoolRules}
 use Rattle.hx_config_parts.specs.Tables.{found}
 use Rattle.hx_pool.specs.declared.entries.Entry.{Entry}

@@ -1,5 +1,5 @@
 -- Numbers: decimal digits without a leading zero, as large as their type holds.
-use Rattle.std.specs.Prelude.{ℕ, ◌+◌, ◌&&◌, List, [], ◌∷◌, ◌++◌, Option, Some, None, Result, Ok, Err, if◌then◌else◌, ◌==◌, nat_le, bytes_eq, codes}
+use Rattle.std.specs.Prelude.{ℕ, ◌&&◌, List, [], ◌∷◌, Option, Some, None, Result, Ok, Err, if◌then◌else◌, ◌==◌, nat_le, bytes_eq, codes}
 use Rattle.hx_config_parts.specs.Numbers.{value}
 use Rattle.hx_script_parts.specs.Numbers.{is_decimal}
 use Rattle.hx_transcripts_parts.specs.declared.fault.Rule.{Rule}

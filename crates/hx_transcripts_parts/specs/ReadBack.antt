@@ -1,5 +1,5 @@
 -- What reading back means: a reader reads each value from its one text, and reads no other text.
-use Rattle.std.specs.Prelude.{◌≡◌, ℕ, ◌<◌, ◌≤◌, true, List, [], ◌∷◌, ◌++◌, All, length, Ok, Result}
+use Rattle.std.specs.Prelude.{◌≡◌, ℕ, ◌<◌, ◌≤◌, true, List, ◌∷◌, ◌++◌, All, length, Ok, Result}
 use Rattle.std.specs.List.{list_all}
 use Rattle.hx_base.specs.Names.{IsName}
 use Rattle.hx_base.specs.declared.numbers.ThreadNo.{ThreadNo}

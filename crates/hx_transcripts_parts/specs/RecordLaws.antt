@@ -1,25 +1,20 @@
 -- What reading back means for the lines of records, and for the rest of a server's line and of a line of totals.
-use Rattle.std.specs.Prelude.{◌≡◌, ℕ, ◌<◌, ◌≤◌, List, ◌++◌, Ok, length, codes, ⊤}
+use Rattle.std.specs.Prelude.{◌≡◌, ℕ, ◌≤◌, List, ◌++◌, Ok, length, codes}
 use Rattle.hx_base.specs.declared.totals.Totals.{Totals}
-use Rattle.hx_base.specs.declared.rules.PoolRules.{PoolRules}
 use Rattle.hx_record.specs.declared.served.Carried.{Carried}
 use Rattle.hx_record.specs.declared.served.Kind.{Kind}
 use Rattle.hx_record.specs.declared.served.Kind.TheVariants as kind
-use Rattle.hx_record.specs.declared.served.Served.{Served}
 use Rattle.hx_record.specs.declared.served.Told.{Told}
 use Rattle.hx_record.specs.declared.served.Told.TheVariants as told
 use Rattle.hx_script.specs.declared.transcript.ServerPart.{ServerPart}
-use Rattle.hx_script.specs.LinkLines.{totals_text}
 use Rattle.hx_script.specs.PrintedForm.{IsToldRecord}
 use Rattle.hx_script.specs.RecordLines.{record_line}
 use Rattle.hx_transcripts_parts.specs.declared.keywords.RecordWord.{RecordWord}
 use Rattle.hx_transcripts_parts.specs.declared.keywords.RecordWord.TheVariants as first
 use Rattle.hx_transcripts_parts.specs.Lexical.{Rest, rest_text}
-use Rattle.hx_transcripts_parts.specs.MarkLaws.{FitsRules, rules_text}
-use Rattle.hx_transcripts_parts.specs.Marks.{rules_at}
 use Rattle.hx_transcripts_parts.specs.Numbers.{most_16, most_32, most_64}
 use Rattle.hx_transcripts_parts.specs.ReadBack.{FitsWho, FitsSpan}
-use Rattle.hx_transcripts_parts.specs.Records.{record_at, totals_at}
+use Rattle.hx_transcripts_parts.specs.Records.{record_at}
 
 -- the word of a kind of record
 abbrev pub record_text : RecordWord → List ℕ

@@ -1,9 +1,5 @@
 -- The lines of records, behind their first word, and the counts of a line of totals.
-use Rattle.std.specs.Prelude.{ℕ, Bool, true, false, ◌&&◌, not, List, [], ◌∷◌, Option, Some, None, Result, Ok, Err, if◌then◌else◌, codes}
-use Rattle.hx_base.specs.declared.numbers.ThreadNo.{ThreadNo}
-use Rattle.hx_base.specs.declared.numbers.SessionNo.{SessionNo}
-use Rattle.hx_base.specs.declared.numbers.ServerNo.{ServerNo}
-use Rattle.hx_base.specs.declared.numbers.ConnId.{ConnId}
+use Rattle.std.specs.Prelude.{ℕ, Bool, true, false, ◌&&◌, not, List, Result, Ok, codes}
 use Rattle.hx_base.specs.declared.numbers.Span.{Span}
 use Rattle.hx_base.specs.declared.totals.Totals.{Totals}
 use Rattle.hx_record.specs.declared.served.Carried.{Carried}
@@ -11,9 +7,6 @@ use Rattle.hx_record.specs.declared.served.CutCause.{CutCause}
 use Rattle.hx_record.specs.declared.served.CutCause.TheVariants as cut
 use Rattle.hx_record.specs.declared.served.Kind.{Kind}
 use Rattle.hx_record.specs.declared.served.Kind.TheVariants as kind
-use Rattle.hx_record.specs.declared.served.Left.{Left}
-use Rattle.hx_record.specs.declared.served.LeftCause.{LeftCause}
-use Rattle.hx_record.specs.declared.served.Served.{Served}
 use Rattle.hx_record.specs.declared.served.Told.{Told}
 use Rattle.hx_record.specs.declared.served.Told.TheVariants as told
 use Rattle.hx_script.specs.declared.transcript.ServerPart.{ServerPart}

@@ -1,5 +1,5 @@
 -- Byte texts in their one spelling.
-use Rattle.std.specs.Prelude.{ℕ, List, [], ◌∷◌, Option, Some, None, Result, Ok, Err, if◌then◌else◌, ◌==◌}
+use Rattle.std.specs.Prelude.{ℕ, List, [], ◌∷◌, Option, Some, None, Result, Ok, if◌then◌else◌, ◌==◌}
 use Rattle.hx_script_parts.specs.ByteText.{quoted}
 use Rattle.hx_script_parts.specs.QuotedReading.{quoted_at}
 use Rattle.hx_transcripts_parts.specs.declared.fault.Rule.{Rule}
