@@ -93,8 +93,8 @@ abbrev pub AreInOrder : List Note → ℕ → List Stay → Type 0
 AreInOrder H row [] = Unit {0}
 AreInOrder H row (x ∷ xs) = AllBehind H row x xs × AreInOrder H row xs
 
--- the list has whatever rests in the row after the history, in the order of parking; beside that it may have stays whose
--- connections are gone
+-- the list has whatever rests in the row after the history, in the order of parking; beside that it may have stays
+-- whose connections are gone
 pub record Follows (stays : List Stay) (row : ℕ) (H : List Note) : Type 0 where
   pub listed : (x : Stay) → RestsAt H row x → Lists stays x
   pub order : AreInOrder H row stays

@@ -89,7 +89,8 @@ pub record IsOverMax (old new : PlaceView) (c : ℕ) : Type 0 where
   pub found : FindsVacant old.view.thread looks place
   pub few : length looks ≤ 64
   pub limit : (m : ℕ) × (old.view.terms.rules.max ≡ Some m) × (m ≤ c)
-  pub steps : Steps old new (gated old.view.thread looks (plain (Up old.view.thread c) ∷ plain (Down old.view.thread down) ∷ []))
+  pub steps : Steps old new
+      (gated old.view.thread looks (plain (Up old.view.thread c) ∷ plain (Down old.view.thread down) ∷ []))
 
 -- nothing may be put into the row, and why
 abbrev pub Refuses : PlaceView → PlaceView → NoPark → Type 0
@@ -113,7 +114,8 @@ abbrev pub IsGone : PlaceView → PlaceNo → Face → Type 0
 IsGone s place f = spot_at (table_after s.view.seen) place ≢ Holds f
 
 -- a Take, a Free and a Down: the value is what rested at the place when it was taken
-pub record Gets (old new : PlaceView) (n : SessionNo) (first : Bool) (place : PlaceNo) (f : Face) (v : Shown) : Type 0 where
+pub record Gets (old new : PlaceView) (n : SessionNo) (first : Bool) (place : PlaceNo) (f : Face)
+    (v : Shown) : Type 0 where
   pub count : ℕ
   pub steps : Steps old new (taking old.view.thread n first place f count)
   pub between : List Note
@@ -152,13 +154,15 @@ StaysAt old new n place v = ParksAt old new n place v (plain (Gate old.view.thre
 pub record IsTakenAt (old new : PlaceView) (n : SessionNo) (place : PlaceNo) (v : Shown) : Type 0 where
   pub found : Found
   pub other : found ≢ Resting v.face
-  pub parks : ParksAt old new n place v (plain (Gate old.view.thread true) ∷ plain (Look old.view.thread place found) ∷ [])
+  pub parks : ParksAt old new n place v
+      (plain (Gate old.view.thread true) ∷ plain (Look old.view.thread place found) ∷ [])
   pub gone : IsGone new place v.face
 
 -- the Gate after the Park shows draining, and it was taken back as it was
 pub record ComesBack (old new : PlaceView) (n : SessionNo) (place : PlaceNo) (v w : Shown) : Type 0 where
   pub down : ℕ
-  pub parks : ParksAt old new n place v (plain (Gate old.view.thread true) ∷ taking old.view.thread n false place v.face down)
+  pub parks : ParksAt old new n place v
+      (plain (Gate old.view.thread true) ∷ taking old.view.thread n false place v.face down)
   pub same : w ≡ v
   pub gone : IsGone new place v.face
 

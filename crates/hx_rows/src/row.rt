@@ -5,7 +5,7 @@ ghost use Rattle.hx_pool.specs.Opening.{HasConn};
 ghost use Rattle.hx_pool.specs.Parking.{CanPark, Parks, RefusesPark};
 ghost use Rattle.hx_pool.specs.Taking.{TakesOwn, TakesNoneOwn};
 ghost use Rattle.hx_places.specs.Seats.{history_of};
-ghost use Rattle.hx_rows.specs.Row.{IsRowOf, NeverOverMax};
+ghost use Rattle.hx_rows.specs.Row.{IsRowOf, KeepsCount, NeverOverMax};
 ghost use Rattle.hx_rows.specs.Steps.{IsAtRest};
 
 use crate::stays::{Stay, Stays};
@@ -86,6 +86,7 @@ impl Row {
         ensures grows { (passed : Option ℕ) → Grows (history_of seat.old passed)
             (history_of seat.new passed) self.new.last }
         ensures limit { NeverOverMax seat.new }
+        ensures count { KeepsCount seat.new }
         // The row can be used again.
         ensures row { IsRowOf self.new.stays seat.new }
         ensures rest { IsAtRest seat.new }
@@ -148,6 +149,7 @@ impl Row {
         ensures grows { (passed : Option ℕ) → Grows (history_of seat.old passed)
             (history_of seat.new passed) self.new.last }
         ensures limit { NeverOverMax seat.new }
+        ensures count { KeepsCount seat.new }
         // The row can be used again.
         ensures row { IsRowOf self.new.stays seat.new }
         ensures rest { IsAtRest seat.new }
