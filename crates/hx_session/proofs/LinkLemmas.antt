@@ -67,7 +67,10 @@ kind_at s s' a b why r (kind.Passed c) same t = (
   t.0,
   subst (λ (o : Option LinkTold). WhereTold (what_of_link s'.client).told (λ x. WhereTold o (λ y. RecountsBytes r.kind r x y why))) (sym (same (OnConn t.0.0) t.0.1)) t.1,
 )
-kind_at s s' a b why r (kind.Cut c w) same t = t
+kind_at s s' a b why r (kind.Cut c w) same t = (
+  t.0,
+  subst (λ (o : Option LinkTold). WhereTold (what_of_link s'.client).told (λ x. WhereTold o (λ y. RecountsBytes r.kind r x y why))) (sym (same (OnConn t.0.0) t.0.1)) t.1,
+)
 kind_at s s' a b why r (kind.Own status) same t = t
 
 records_at : (s s' : SessionNow) (a b : Option What) (left : Option Leave) (served : Option Served) → ((c : Holding) → s.conn ≡ Some c → IfSome served (λ r. told_of b ≡ told_of a)) → RecordsTold s s' a left served

@@ -14,7 +14,7 @@ use Rattle.hx_session.specs.Stopping.{StopTouches, stopping, stopped_of}
 use Rattle.hx_session.specs.Telling.{RecordsTold, stopped}
 use Rattle.hx_session.specs.Touching.{after_of}
 
--- of a step; of the record of a cut only whose it is
+-- of a step: the way of the touched connection, and the record by what its link tells after the call
 pub record StepLinks (s s' : SessionNow) (before after : Around) (r : Step) : Type 0 where
   pub added : List (List Note)
   pub touches : StepTouches (doing s s' before after added r)
