@@ -20,7 +20,8 @@ use Rattle.hx_worker.specs.Workers.{WorkerNow, Each, StaysWorker, session_of}
 abbrev pub HasFewMarks : List Note → Type 0
 HasFewMarks es = length (marks_of es) ≤ most_marks
 
--- what a session's step is: whose session it stays, which entries it made, server by server, what it told, and that it ended
+-- what a session's step is: whose session it stays, which entries it made, server by server, what it told, and
+-- whether it ended
 pub record SessionStep (s s' : SessionNow) (before after : Around) (r : Step) : Type 0 where
   pub same : IsSameStep s s' before.seats after.seats before.net after.net
   pub adds : AddsMarks s before.seats after.seats

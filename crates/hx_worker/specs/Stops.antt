@@ -14,7 +14,8 @@ use Rattle.hx_worker.specs.Steps.{HasFewMarks, BuriesClient}
 use Rattle.hx_worker.specs.Workers.{WorkerNow, Each, StaysWorker}
 
 -- what a session's stop is: its seats hold nothing for it, which entries it made, server by server, and what it told
-pub record SessionStop (s : SessionNow) (client : LinkState) (seats seats' : List History) (net net' : NetState) (x : Stopped) : Type 0 where
+pub record SessionStop (s : SessionNow) (client : LinkState) (seats seats' : List History) (net net' : NetState)
+    (x : Stopped) : Type 0 where
   pub stops : IsStopped s client seats seats' net net' x.left
   pub adds : AddsMarks s seats seats'
   pub few : Each HasFewMarks adds.added
