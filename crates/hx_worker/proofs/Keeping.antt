@@ -20,6 +20,7 @@ use Rattle.hx_worker.specs.declared.answers.Stopped.{Stopped}
 use Rattle.hx_worker.specs.Workers.{WorkerNow, worker_now, session_of, held_of, IsOurs, HasSessions, HasSeats}
 use Rattle.hx_worker.specs.Steps.{SessionStep, Steps, BuriesClient, placed}
 use Rattle.hx_worker.specs.Stops.{SessionStop, StopsOne}
+use Rattle.hx_worker.proofs.Linked.{step_buried, stop_buried}
 use Rattle.hx_worker.proofs.ByNumber.{session_past, none_behind, placed_other, placed_held, placed_rise, placed_each, placed_few, each_found, rise_rest}
 use Rattle.hx_worker.proofs.Owners.{owns_holds, owns_after, one_after, serve_after}
 
@@ -69,7 +70,7 @@ may_stop w n loop_no s numbered m = record { config = w.config; numbered = numbe
 -- what a session's step gives its worker
 pub record Stepped (config : Meaning) (n : ℕ) (ss : List SessionNow) (s a : SessionNow) (before after : Around) (r : Step) : Type 0 where
   pub there : session_of ss n ≡ Some s
-  pub step : SessionStep s a before after r
+  pub step : SessionStep config s a before after r
   pub turns : TurnsFit config after.turns
   pub going : a.over ≡ false → IsGoing config a
   pub left : a.over ≡ true → a.client.on_loop ≡ None
@@ -126,6 +127,7 @@ stepped t config hs hs' js js' ts ts' last ss ss' net mid net' n r s a x is buri
   step = x.step;
   sessions = is;
   buries = buries;
+  buried = step_buried config s a (around_with hs ts net) (around_with hs' ts' mid) r x.step net' buries;
   journals = journals;
 }
 
@@ -160,5 +162,6 @@ module _ (t : ThreadNo) (config : Meaning) (hs hs' : List History) (js js' : Lis
     stop = stop;
     sessions = refl;
     buries = buries;
+    buried = stop_buried s client (around_with hs ts net) (around_with hs' ts mid) x (stop.links ts) net' buries;
     journals = journals;
   }

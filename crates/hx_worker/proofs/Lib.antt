@@ -1,6 +1,7 @@
 pub mod ByNumber
 pub mod Items
 pub mod Owners
+pub mod Linked
 pub mod Keeping
 pub mod Stepping
 pub mod Caring

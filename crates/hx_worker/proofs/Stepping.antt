@@ -17,7 +17,9 @@ use Rattle.hx_connecting.specs.Touches.{most_marks}
 use Rattle.hx_numbered.specs.Numbers.{value_of, with_value, removed}
 use Rattle.hx_session.specs.Fits.{IsGoing, TurnsFit, SeatsServe}
 use Rattle.hx_session.specs.Kept.{IsSameStep, IsStopped}
+use Rattle.hx_session.specs.Linking.{StepLinks, StopLinks}
 use Rattle.hx_session.specs.Marking.{AddsMarks}
+use Rattle.hx_session.specs.Picked.{StepPicks}
 use Rattle.hx_session.specs.Telling.{StepTold, StopTold}
 use Rattle.hx_session.specs.declared.step.Step.{Step}
 use Rattle.hx_session.specs.declared.step.Waits.{Waits}
@@ -30,6 +32,7 @@ use Rattle.hx_worker.specs.Listed.{sessions_of, AreUnderTheirs}
 use Rattle.hx_worker.proofs.ByNumber.{each_found, session_here}
 use Rattle.hx_worker.proofs.Items.{value_is, with_under, removed_under, with_placed, removed_placed, with_found}
 use Rattle.hx_worker.proofs.Keeping.{MayCall, may_call, Stepped, step_sessions, step_seats, stepped, after_number, stop_sessions, stop_seats, stopped_one}
+use Rattle.hx_worker.proofs.Linked.{chose_for}
 use Rattle.hx_worker.proofs.Owners.{few_marks}
 
 some_is : {A : Type 0} (a b : A) → Some a ≡ Some b → a ≡ b
@@ -50,6 +53,8 @@ not_ended w k e = ⊎_elim (λ (a : w ≡ waits.Nothing). cc) (λ s. ⊎_elim (�
 pub record StepEnsures (config : Meaning) (s a : SessionNow) (before after : Around) (r : Step) : Type 0 where
   pub same : IsSameStep s a before.seats after.seats before.net after.net
   pub adds : AddsMarks s before.seats after.seats
+  pub links : s.over ≡ false → StepLinks s a before after r
+  pub chooses : s.over ≡ false → StepPicks config s a before after r
   pub tells : s.over ≡ false → StepTold s a r.left r.served
   pub ended : (r.waits ≡ waits.Ended → a.over ≡ true) × (a.over ≡ true → r.waits ≡ waits.Ended)
   pub turns : TurnsFit config after.turns
@@ -67,6 +72,8 @@ step_made config n ss s a before after r there going e = record {
     same = e.same;
     adds = e.adds;
     few = few_marks s.worker s.number (is_first s) e.adds.touch 0 before.seats after.seats e.adds.added e.adds.adds;
+    links = e.links going.going;
+    chooses = chose_for config s a before after r (e.links going.going) (e.chooses going.going);
     tells = e.tells going.going;
     ended = e.ended;
   };
@@ -203,6 +210,7 @@ pub record StopEnsures (s : SessionNow) (client : LinkState) (seats seats' : Lis
   pub stops : IsStopped s client seats seats' net net' x.left
   pub tells : StopTold s client x.left x.served
   pub adds : AddsMarks s seats seats'
+  pub links : (turns : List ℕ) → StopLinks s client (around_with seats turns net) (around_with seats' turns net') x.served x.left
 
 pub settled_stop : {S : Type 0} (h : S → History) (xs ys xs' ys' : List S) (s : SessionNow) (client : LinkState) (net mid : NetState) (x : Stopped) → xs ≡ ys → xs' ≡ ys'
     → StopEnsures s client (map h xs) (map h xs') net mid x → StopEnsures s client (map h ys) (map h ys') net mid x
@@ -221,6 +229,7 @@ stop_done t config hs hs' js js' ts last items items' s client net mid net' x le
       stops = k.stops;
       adds = k.adds;
       few = few_marks s.worker s.number (is_first s) k.adds.touch 0 hs hs' k.adds.added k.adds.adds;
+      links = k.links;
       tells = k.tells;
     } in
     let no_loop : client.on_loop ≡ None = ap (λ (l : LinkState). l.on_loop) k.stops.link in record {

@@ -9,8 +9,8 @@ use Rattle.hx_worker.specs.declared.answers.NoEntry.{NoEntry}
 use Rattle.hx_worker.specs.declared.answers.NoEntry.TheVariants.{SessionsFull, NumbersSpent, NoMemory}
 use Rattle.hx_worker.specs.Workers.{WorkerNow, most_sessions, last_number}
 
--- a client that may be admitted: its link is attached to the worker's loop, no byte was moved over it, and its frontend is one of
--- the configuration's
+-- a client that may be admitted: its link is attached to the worker's loop, no byte was moved over it, and its
+-- frontend is one of the configuration's
 pub record IsAdmissible (w : WorkerNow) (client : LinkState) (front : ℕ) : Type 0 where
   pub loop : client.on_loop ≡ Some w.thread.0
   pub new : IsNewClient client

@@ -11,9 +11,10 @@ use Rattle.hx_caretaker.specs.Sweeps.{Sweep, care_marks}
 use Rattle.hx_connecting.specs.Journals.{JournalsStay}
 use Rattle.hx_worker.specs.Workers.{WorkerNow, StaysWorker}
 
--- on each server the caretaker does as P says: it buries the links of what it closed and answers how many these were; no session
--- and no turn changes
-pub record Cares (P : ℕ → History → History → Sweep → Type 0) (w w' : WorkerNow) (net net' : NetState) (count : ℕ) : Type 0 where
+-- on each server the caretaker does as P says: it buries the links of what it closed and answers how many these were;
+-- no session and no turn changes
+pub record Cares (P : ℕ → History → History → Sweep → Type 0) (w w' : WorkerNow) (net net' : NetState) (count : ℕ)
+    : Type 0 where
   pub stays : StaysWorker w w'
   pub sessions : w'.sessions ≡ w.sessions
   pub turns : w'.turns ≡ w.turns

@@ -14,7 +14,8 @@ abbrev pub with_seat : WorkerNow → ℕ → History → JournalRoom → WorkerN
 with_seat w i h room = record w { seats = slice_set w.seats i h; journals = slice_set w.journals i room }
 
 -- once the borrow r ends, the server has the last seat written through r, and nothing else changed
-abbrev pub lends_seat : (S L : RattleType) → SeatGhosts S.Denot → LinkGhosts L.Denot → MutBor WorkerNow → ℕ → MutBor S.Denot → Fml
+abbrev pub lends_seat : (S L : RattleType) → SeatGhosts S.Denot → LinkGhosts L.Denot → MutBor WorkerNow → ℕ
+    → MutBor S.Denot → Fml
 lends_seat S L seat link s i r =
     Lends (the_row (record { mir = named 1; lft = [] }) S L seat link) S s r
     (λ x. with_seat s.now i (seat.history x) (room_of seat.kept_from seat.spare x))

@@ -1,17 +1,23 @@
 -- What a caller learns of a worker's step.
-use Rattle.std.specs.Prelude.{◌≡◌, ◌==◌, ◌≤◌, if◌then◌else◌, Bool, true, false, List, [], ◌∷◌, length, Some, None}
+use Rattle.std.specs.Prelude.{◌≡◌, ◌==◌, ◌≤◌, if◌then◌else◌, Bool, true, false, List, [], ◌∷◌, ◌++◌, length, Option, Some, None, option_to_list}
 use Rattle.hx_base.specs.declared.numbers.SessionNo.{SessionNo}
+use Rattle.hx_config.specs.Meaning.{Meaning}
 use Rattle.hx_link.specs.Told.{LinkState}
 use Rattle.hx_link.specs.Nets.{NetState}
 use Rattle.hx_pool.specs.declared.entries.Note.{Note}
 use Rattle.hx_pool.specs.History.{marks_of}
 use Rattle.hx_caretaker.specs.Sweeps.{BuriesAll}
 use Rattle.hx_connecting.specs.Journals.{JournalsStay}
+use Rattle.hx_connecting.specs.Links.{GainsAll}
 use Rattle.hx_connecting.specs.Sessions.{SessionNow, Around, around_with}
-use Rattle.hx_connecting.specs.Touches.{most_marks}
+use Rattle.hx_connecting.specs.Touches.{Touch, most_marks}
+use Rattle.hx_session.specs.Doings.{Doing}
 use Rattle.hx_session.specs.Kept.{IsSameStep}
+use Rattle.hx_session.specs.Linking.{StepLinks}
 use Rattle.hx_session.specs.Marking.{AddsMarks}
+use Rattle.hx_session.specs.Steps.{StepChooses, doing}
 use Rattle.hx_session.specs.Telling.{StepTold}
+use Rattle.hx_session.specs.Touching.{Touches}
 use Rattle.hx_session.specs.declared.step.Step.{Step}
 use Rattle.hx_session.specs.declared.step.Waits.TheVariants.{Ended}
 use Rattle.hx_worker.specs.Workers.{WorkerNow, Each, StaysWorker, session_of}
@@ -20,11 +26,14 @@ use Rattle.hx_worker.specs.Workers.{WorkerNow, Each, StaysWorker, session_of}
 abbrev pub HasFewMarks : List Note → Type 0
 HasFewMarks es = length (marks_of es) ≤ most_marks
 
--- what a session's step is: whose session it stays, which entries it made, server by server, what it told, and that it ended
-pub record SessionStep (s s' : SessionNow) (before after : Around) (r : Step) : Type 0 where
+-- what a session's step is: whose session it stays, which entries it made, server by server, which connection it touched
+-- and how the link of that went, which server it chose, what it told, and whether it ended
+pub record SessionStep (config : Meaning) (s s' : SessionNow) (before after : Around) (r : Step) : Type 0 where
   pub same : IsSameStep s s' before.seats after.seats before.net after.net
   pub adds : AddsMarks s before.seats after.seats
   pub few : Each HasFewMarks adds.added
+  pub links : StepLinks s s' before after r
+  pub chooses : StepChooses config (doing s s' before after links.added r) links.touches.touch
   pub tells : StepTold s s' r.left r.served
   pub ended : (r.waits ≡ Ended → s'.over ≡ true) × (s'.over ≡ true → r.waits ≡ Ended)
 
@@ -39,6 +48,22 @@ abbrev pub BuriesClient : Bool → LinkState → NetState → NetState → Type 
 BuriesClient false client mid net = net ≡ mid
 BuriesClient true client mid net = (client.on_loop ≡ None) × BuriesAll (client ∷ []) mid net
 
+-- the link of the touched connection where that was closed, as it was buried
+abbrev pub gone_of : (d : Doing) (x : Option Touch) → Touches d x → Option LinkState
+gone_of d None t = None
+gone_of d (Some x) t = t.goes.gone
+
+-- the links that a call buries: that of a closed connection, and behind it the client's where the session ended
+abbrev pub buried_with : Option LinkState → Bool → LinkState → List LinkState
+buried_with gone false client = option_to_list gone
+buried_with gone true client = option_to_list gone ++ client ∷ []
+
+-- the links that a session's step leaves to be buried
+abbrev pub buried_by : (config : Meaning) (s s' : SessionNow) (before after : Around) (r : Step)
+    → SessionStep config s s' before after r → List LinkState
+buried_by config s s' before after r x =
+    buried_with (gone_of (doing s s' before after x.links.added r) x.links.touches.touch x.links.touches.touched) s'.over s'.client
+
 -- what is around a worker's sessions
 abbrev pub around_of : WorkerNow → NetState → Around
 around_of w net = around_with w.seats w.turns net
@@ -51,7 +76,9 @@ pub record Steps (w w' : WorkerNow) (net net' : NetState) (n : SessionNo) (r : S
   pub there : session_of w.sessions n.0 ≡ Some session
   -- the net as the session left it
   pub mid : NetState
-  pub step : SessionStep session after (around_of w net) (around_of w' mid) r
+  pub step : SessionStep w.config session after (around_of w net) (around_of w' mid) r
   pub sessions : w'.sessions ≡ placed w.sessions after
   pub buries : BuriesClient after.over after.client mid net'
+  -- in the whole call just these links were buried
+  pub buried : GainsAll (buried_by w.config session after (around_of w net) (around_of w' mid) r step) net.buried net'.buried
   pub journals : JournalsStay most_marks w.journals w'.journals

@@ -1,5 +1,5 @@
--- What a worker shows to contracts, and what holds between its calls: each connection that its seats hold for a session is that
--- session's, and each link in use is attached to its loop.
+-- What a worker shows to contracts, and what holds between its calls: each connection that its seats hold for a
+-- session is that session's, and each link in use is attached to its loop.
 use Rattle.std.specs.Prelude.{◌≡◌, ℕ, ◌==◌, ◌≤◌, ◌<◌, ◌^◌, ◌-◌, if◌then◌else◌, List, [], ◌∷◌, length, replicate, Option, Some, None, slice_get, ⊤}
 use Rattle.hx_base.specs.declared.numbers.ThreadNo.{ThreadNo}
 use Rattle.hx_base.specs.declared.numbers.SessionNo.{SessionNo}
@@ -52,8 +52,8 @@ abbrev pub held_of : Option SessionNow → ℕ → Option Holding
 held_of None i = None
 held_of (Some s) i = conn_at s.conn i
 
--- for each server and each number its seat holds just the connection that the session of that number has to that server: none for
--- a number that isn't there, and none for the caretaker
+-- for each server and each number its seat holds just the connection that the session of that number has to that
+-- server: none for a number that isn't there, and none for the caretaker
 abbrev pub OwnsAll : List History → List SessionNow → Type 0
 OwnsAll seats sessions =
     (i : ℕ) (h : History) (n : SessionNo) → slice_get seats i ≡ Some h
@@ -85,8 +85,8 @@ pub record HasSessions (w : WorkerNow) : Type 0 where
   pub ours : Each (IsOurs w.thread w.config) w.sessions
   pub turns : TurnsFit w.config w.turns
 
--- what each call of a worker asks of its seats and keeps: they are those of the configuration's servers, each in one history, and
--- they hold what its sessions have. It always asks anew, since a caller who was lent a seat may have changed it
+-- what a worker's calls ask of its seats and keep: they are those of the configuration's servers, each in one history,
+-- and they hold what its sessions have. Each call asks anew, since a caller who was lent a seat may have changed it
 pub record HasSeats (w : WorkerNow) : Type 0 where
   pub serve : SeatsServe w.thread w.seats (all_servers w.config.backs)
   pub owns : OwnsAll w.seats w.sessions

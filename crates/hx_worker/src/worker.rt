@@ -66,7 +66,8 @@ impl<'a, S: Seat<Rested<L>>, L: Link> Model for Worker<'a, S, L> {
         (map (room_of S.kept_from S.spare) w.seats.items) w.turns.items w.last (sessions_of w.sessions.items) };
 
     ghost invariant = { λ w. IsSound (worker_now w.thread (meaning w.config.now) (map S.history w.seats.items)
-        (map (room_of S.kept_from S.spare) w.seats.items) w.turns.items w.last (sessions_of w.sessions.items)) w.sessions.items };
+        (map (room_of S.kept_from S.spare) w.seats.items) w.turns.items w.last (sessions_of w.sessions.items))
+        w.sessions.items };
 }
 
 impl<'a, S: Seat<Rested<L>>, L: Link> Worker<'a, S, L> {
@@ -102,8 +103,8 @@ impl<'a, S: Seat<Rested<L>>, L: Link> Worker<'a, S, L> {
     /// Begins the session of a client whose link is attached to the worker's loop.
     ///
     /// # Errors
-    /// A `Refused` hands back the client: 1,024 sessions are there, all numbers were given, or for want of memory. Nothing
-    /// changes then.
+    /// A `Refused` hands back the client: 1,024 sessions are there, all numbers were given, or for want of memory.
+    /// Nothing changes then.
     pub fn admit(&mut self, client: L, front: u16, now: Millis) -> Result<SessionNo, Refused<L>>
         requires fresh { IsAdmissible self.old (L.state client) front }
         ensures admits { MatchResult result (λ n. Admits self.old self.new (L.state client) front now n)
@@ -195,8 +196,8 @@ impl<'a, S: Seat<Rested<L>>, L: Link> Worker<'a, S, L> {
         tick_seats(self.seats.as_mut_slice(), net, now)
     }
 
-    /// Carries out an order on its server. Drain closes what rests there and buries the links, and answers how many that
-    /// were. Ready answers 0.
+    /// Carries out an order on its server. Drain closes what rests there and buries the links, and answers how many
+    /// that were. Ready answers 0.
     pub fn order<N: Net<L = L>>(&mut self, net: &mut N, what: Order) -> u64
         requires there { (ordered_server what).0 < length (all_servers self.old.config.backs) }
         requires seats { HasSeats self.old }

@@ -69,7 +69,7 @@ on g c =
     stays_here h f i.thread (meaning i.config.now) i.last i.sessions.items c.as_mut_slice.result.now i.seats.items c.step-step.new.seats xs.items
     c.as_mut_slice-2.result.now i.turns.items c.step-step.new.turns ts.items (g.N.Net.state c.args.net.now) (g.N.Net.state c.step-step.new.net) c.args.n c.step-step.result
     c.in-Some.session.now c.step-step.new.self c.as_mut_slice.ensures.value c.as_mut_slice-2.ensures.value (sym a) (sym b) c.in-Some.ensures.value
-    (record { same = e.same; adds = e.adds; tells = e.tells; ended = e.ended; turns = e.turns; going = e.going; left = e.left; holds = e.holds; serve = e.seats })
+    (record { same = e.same; adds = e.adds; links = e.links; chooses = e.chooses; tells = e.tells; ended = e.ended; turns = e.turns; going = e.going; left = e.left; holds = e.holds; serve = e.seats })
     e.journals c.self.invariant.under c.self.invariant.has (not_ended c.step-step.result.waits c.in-Nothing.is)
 
 -- where it is gone
@@ -87,7 +87,7 @@ off g c =
     gone_here h f i.thread (meaning i.config.now) i.last i.sessions.items c.as_mut_slice.result.now i.seats.items c.step-step.new.seats xs.items
     c.as_mut_slice-2.result.now i.turns.items c.step-step.new.turns ts.items (g.N.Net.state c.args.net.now) (g.N.Net.state c.step-step.new.net) c.args.n c.step-step.result
     c.in-Some.session.now c.step-step.new.self c.as_mut_slice.ensures.value c.as_mut_slice-2.ensures.value (sym a) (sym b) c.in-Some.ensures.value
-    (record { same = e.same; adds = e.adds; tells = e.tells; ended = e.ended; turns = e.turns; going = e.going; left = e.left; holds = e.holds; serve = e.seats })
+    (record { same = e.same; adds = e.adds; links = e.links; chooses = e.chooses; tells = e.tells; ended = e.ended; turns = e.turns; going = e.going; left = e.left; holds = e.holds; serve = e.seats })
     e.journals c.self.invariant.under c.self.invariant.has
     c.remove.new.self.items (g.N.Net.state c.bury.new.self) (g.L.Link.state c.end.result) c.in-Ended.is c.remove.ensures.rest
     (c.end.ensures

@@ -65,7 +65,7 @@ done g c =
     i.sessions.items c.take_least.new.sessions.items s client net mid (g.N.Net.state c.bury.new.self) (record { served = c.stop-served.result.served; left = c.stop-served.result.left })
     c.in-Some.ensures c.self.invariant.under c.self.invariant.has
     (settled_stop h c.as_mut_slice.result.now i.seats.items c.stop-served.new.seats xs.items s client net mid (record { served = c.stop-served.result.served; left = c.stop-served.result.left })
-    c.as_mut_slice.ensures.value (sym a) (record { stops = e.stops; tells = e.tells; adds = e.adds }))
+    c.as_mut_slice.ensures.value (sym a) (record { stops = e.stops; tells = e.tells; adds = e.adds; links = e.links }))
     c.bury.ensures.buries
     (settled_rooms f most_marks c.as_mut_slice.result.now i.seats.items c.stop-served.new.seats xs.items c.as_mut_slice.ensures.value (sym a) e.journals)
 
