@@ -1,4 +1,8 @@
 //! Doors and cabinets in memory.
+ghost use Rattle.std.specs.Prelude.{IfOk};
+ghost use Rattle.hx_doors.specs.Doors.{IsClient};
+ghost use Rattle.hx_doors.specs.MemoryCabinets.{IsUnread};
+
 use hx_base::{Address, Bytes, Host, Items, Millis, Name, Plan};
 use hx_doors::{Accepted, Cabinet, Door, MemoryCabinet, MemoryDoor, NoFile};
 use hx_link::{Got, MemoryLink, MemorySource, Source};
@@ -6,7 +10,9 @@ use std::alloc::Global;
 use std::test::Fail;
 
 /// A client of the script line.
-fn client(alloc: Global, line: u32) -> MemoryLink {
+fn client(alloc: Global, line: u32) -> MemoryLink
+    ensures { IsClient result.state }
+{
     MemoryLink::new(Plan {
         line,
         server: None,
@@ -39,7 +45,10 @@ fn a_door_in_memory_gives_each_client_once_in_order(rt: HostRuntime) -> Result<(
     Ok(())
 }
 
-fn file(alloc: Global, name: &str, bytes: &[u8], fails: u64) -> Result<(Name, MemorySource), Fail> {
+/// A file of which no byte was read.
+fn file(alloc: Global, name: &str, bytes: &[u8], fails: u64) -> Result<(Name, MemorySource), Fail>
+    ensures { IfOk result (λ f. IsUnread f.1) }
+{
     let name = Name::from_vec(Vec::from_slice(alloc, name.as_bytes())?);
     let bytes = Vec::from_slice(alloc, bytes)?;
     let source = MemorySource::new(bytes, vec![in alloc; fails]?);
