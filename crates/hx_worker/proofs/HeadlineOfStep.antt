@@ -4,12 +4,11 @@ use Rattle.std.specs.Prelude.{IfSome, slice_get, option_map}
 use Rattle.hx_base.specs.declared.numbers.SessionNo.{SessionNo}
 use Rattle.hx_base.specs.declared.what.What.{What}
 use Rattle.hx_base.specs.declared.what.LinkTold.{LinkTold}
-use Rattle.hx_conn.specs.Conns.{BusyNow}
 use Rattle.hx_conn.specs.WhatTold.{what_of_link}
 use Rattle.hx_link.specs.Told.{LinkState}
 use Rattle.hx_link.specs.Nets.{NetState, DialTold, StaysTold}
 use Rattle.hx_pool.specs.declared.entries.Note.{Note}
-use Rattle.hx_pool.specs.SeatView.{History, Makes}
+use Rattle.hx_pool.specs.SeatView.{History}
 use Rattle.hx_record.specs.Carriage.{Carriage}
 use Rattle.hx_record.specs.Truth.{RecountsBytes}
 use Rattle.hx_record.specs.declared.served.Carried.{Carried}
@@ -100,12 +99,12 @@ conn_there d (Some x) t b e some = is_there t.goes.before t.goes.after (was_ther
 
 -- and where it touched none, only an own answer's record is given
 not_none : (d : Doing) (x : Option Touch) → Touches d x → (r : Served) → d.served ≡ Some r → (IsOwn r.kind → ⊥) → x ≡ None → ⊥
-not_none d None t r e no is = no (subst (λ (o : Option Served). IfSome o (λ v. IsOwn v.kind)) e t.1)
-not_none d (Some x) t r e no is = cc
+not_none d None t r e other is = other (subst (λ (o : Option Served). IfSome o (λ v. IsOwn v.kind)) e t.1)
+not_none d (Some x) t r e other is = cc
 
 module _ (d : Doing) (x : Option Touch) (t : Touches d x) (why : LeftCause) (r : Served) (gives : d.served ≡ Some r) (tell : LinksTell d.new.client (after_of d x t)) where
   client : (v : LinkTold) × ((what_of_link d.new.client).told ≡ Some v)
-  client = there (what_of_link d.new.client).told tell.client
+  client = there (what_of_link d.new.client).told tell.client_tells
 
   -- of both links
   of_both : (c : Carried) → ItsExchange d.old c → (IsOwn r.kind → ⊥)
@@ -113,7 +112,7 @@ module _ (d : Doing) (x : Option Touch) (t : Touches d x) (why : LeftCause) (r :
       → (v : LinkTold) × (y : LinkTold) × ((what_of_link d.new.client).told ≡ Some v) × (told_of (after_of d x t) ≡ Some y) × RecountsBytes r.kind r (carriage_of v) (carriage_of y) why
   of_both c its other told =
       let some = conn_there d x t (Exchanging its.0) its.1 (not_none d x t r gives other) in
-      let conn = there_conn (after_of d x t) some tell.conn in
+      let conn = there_conn (after_of d x t) some tell.conn_tells in
       (client.0, conn.0, client.1, conn.1,
       of_told (told_of (after_of d x t)) conn.0 (λ y. RecountsBytes r.kind r (carriage_of client.0) y why) conn.1
       (of_told (what_of_link d.new.client).told client.0 (λ v. WhereTold (told_of (after_of d x t)) (λ y. RecountsBytes r.kind r v y why)) client.1 told))

@@ -1,5 +1,6 @@
--- What one step of a worker carries of the headline: each server's entries stand in one history, what was opened was wanted, each
--- connection that the seats hold is with its session, records are true, and a server was chosen, dialled and buried as is due.
+-- What one step of a worker carries of the headline: each server's entries stand in one history, what was opened was
+-- wanted, each connection that the seats hold is with its session, records are true, a server was chosen in turn, and
+-- links were dialled and buried as is due.
 use Rattle.std.specs.Prelude.{◌≡◌, ℕ, ◌≤◌, List, [], ◌∷◌, ◌++◌, length, Option, Some, None, IfSome, IsSome, slice_get}
 use Rattle.hx_base.specs.declared.numbers.SessionNo.{SessionNo}
 use Rattle.hx_base.specs.declared.what.What.{What}
@@ -26,8 +27,9 @@ use Rattle.hx_session.specs.declared.step.Step.{Step}
 use Rattle.hx_worker.specs.Steps.{Steps, HasFewMarks, around_of, buried_by}
 use Rattle.hx_worker.specs.Workers.{WorkerNow, OwnsAll}
 
--- at one seat: what it saw before begins what it has seen, which is one legal history that keeps mode and limit and has its own
--- entries in their order; behind those of before stand the step's, in the session's name or in none; and what it opened was wanted
+-- at one seat: what it saw before begins what it has seen, which is one legal history that keeps mode and limit and has
+-- its own entries in their order; behind those of before stand the step's, in the session's name or in none; and what it
+-- opened was wanted
 pub record CarriesAt (s : SessionNow) (old new : History) (es : List Note) : Type 0 where
   pub about : new.about ≡ old.about
   pub one : StandsInOneHistory new
@@ -41,12 +43,13 @@ pub record CarriesAt (s : SessionNow) (old new : History) (es : List Note) : Typ
 abbrev pub CarriesEach : SessionNow → List History → List History → List (List Note) → Type 0
 CarriesEach s olds news added =
     (i : ℕ) (new : History) → slice_get news i ≡ Some new
-    → (old : History) × (es : List Note) × (slice_get olds i ≡ Some old) × (slice_get added i ≡ Some es) × CarriesAt s old new es
+    → (old : History) × (es : List Note) × (slice_get olds i ≡ Some old) × (slice_get added i ≡ Some es)
+    × CarriesAt s old new es
 
 -- both links tell their bytes after the call, the connection's where there is one
 pub record LinksTell (client : LinkState) (conn : Option What) : Type 0 where
-  pub client : IsSome (what_of_link client).told
-  pub conn : IfSome conn (λ w. IsSome w.told)
+  pub client_tells : IsSome (what_of_link client).told
+  pub conn_tells : IfSome conn (λ w. IsSome w.told)
 
 -- a record of each kind is true of the bytes of its client's link, and of its connection's link where it names one
 abbrev pub IsTrueRecord : LinkState → Option What → LeftCause → Served → Kind → Type 0
@@ -60,7 +63,8 @@ IsTrueRecord client conn why r (kind.Own status) =
     (x : LinkTold) × ((what_of_link client).told ≡ Some x) × RecountsBytes r.kind r (carriage_of x) no_carriage why
 
 -- the dial of a connection that was opened, and no other
-abbrev pub dialled_for : (x : Touch) (c : Came) (old new : NetState) (w : Option What) → DialsFor x c old new w → List DialTold
+abbrev pub dialled_for : (x : Touch) (c : Came) (old new : NetState) (w : Option What)
+    → DialsFor x c old new w → List DialTold
 dialled_for x Had old new w d = []
 dialled_for x Opened old new w d = told_dial x.server x.id d.0 d.1 ∷ []
 dialled_for x (Took place uses) old new w d = []
@@ -70,21 +74,29 @@ dialled_by d None t = []
 dialled_by d (Some x) t = dialled_for x x.came d.before.net d.after.net t.goes.after t.goes.dials
 
 -- one step, as its session made it
-abbrev pub doing_of : (w w' : WorkerNow) (net net' : NetState) (n : SessionNo) (r : Step) → Steps w w' net net' n r → Doing
-doing_of w w' net net' n r k = doing k.session k.after (around_of w net) (around_of w' k.mid) k.step.links.added r
+abbrev pub doing_of : (w w' : WorkerNow) (net net' : NetState) (n : SessionNo) (r : Step)
+    → Steps w w' net net' n r → Doing
+doing_of w w' net net' n r k =
+    doing k.session k.after (around_of w net) (around_of w' k.mid) k.step.links.added r
 
 -- what the touched connection's link tells after the step: it is with its session, or rests, or was buried so
-abbrev pub conn_after : (w w' : WorkerNow) (net net' : NetState) (n : SessionNo) (r : Step) → Steps w w' net net' n r → Option What
-conn_after w w' net net' n r k = after_of (doing_of w w' net net' n r k) k.step.links.touches.touch k.step.links.touches.touched
+abbrev pub conn_after : (w w' : WorkerNow) (net net' : NetState) (n : SessionNo) (r : Step)
+    → Steps w w' net net' n r → Option What
+conn_after w w' net net' n r k =
+    after_of (doing_of w w' net net' n r k) k.step.links.touches.touch k.step.links.touches.touched
 
 -- what it carries; why a connection was closed is not among it yet
-pub record CarriesHeadline (w w' : WorkerNow) (net net' : NetState) (n : SessionNo) (r : Step) (k : Steps w w' net net' n r) : Type 0 where
+pub record CarriesHeadline (w w' : WorkerNow) (net net' : NetState) (n : SessionNo) (r : Step)
+    (k : Steps w w' net net' n r) : Type 0 where
   pub seats : CarriesEach k.session w.seats w'.seats k.step.links.added
   pub owned : OwnsAll w'.seats w'.sessions
   pub records : Records k.session k.after (conn_after w w' net net' n r k) r.left r.served
   pub truth : LinksTell k.after.client (conn_after w w' net net' n r k)
-      → IfSome r.served (λ v. IsTrueRecord k.after.client (conn_after w w' net net' n r k) (leaves_for r.left) v v.kind)
+      → IfSome r.served
+      (λ v. IsTrueRecord k.after.client (conn_after w w' net net' n r k) (leaves_for r.left) v v.kind)
   pub chooses : StepChooses w.config (doing_of w w' net net' n r k) k.step.links.touches.touch
-  pub dialled : GainsAll (dialled_by (doing_of w w' net net' n r k) k.step.links.touches.touch k.step.links.touches.touched)
+  pub dialled :
+      GainsAll (dialled_by (doing_of w w' net net' n r k) k.step.links.touches.touch k.step.links.touches.touched)
       net.dials net'.dials
-  pub buried : GainsAll (buried_by w.config k.session k.after (around_of w net) (around_of w' k.mid) r k.step) net.buried net'.buried
+  pub buried : GainsAll (buried_by w.config k.session k.after (around_of w net) (around_of w' k.mid) r k.step)
+      net.buried net'.buried
