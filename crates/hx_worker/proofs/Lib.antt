@@ -6,3 +6,4 @@ pub mod Keeping
 pub mod Stepping
 pub mod Caring
 pub mod Coming
+pub mod HeadlineOfStep

@@ -12,6 +12,7 @@ pub use Rattle.hx_caretaker.specs.Orders
 pub mod Workers
 pub mod Admitting
 pub mod Steps
+pub mod Headline
 pub mod Stops
 pub mod Cares
 pub mod Listed

@@ -26,8 +26,8 @@ use Rattle.hx_worker.specs.Workers.{WorkerNow, Each, StaysWorker, session_of}
 abbrev pub HasFewMarks : List Note → Type 0
 HasFewMarks es = length (marks_of es) ≤ most_marks
 
--- what a session's step is: whose session it stays, which entries it made, server by server, which connection it touched
--- and how the link of that went, which server it chose, what it told, and whether it ended
+-- what a session's step is: whose session it stays, which entries it made, server by server, which connection it
+-- touched and how the link of that went, which server it chose, what it told, and whether it ended
 pub record SessionStep (config : Meaning) (s s' : SessionNow) (before after : Around) (r : Step) : Type 0 where
   pub same : IsSameStep s s' before.seats after.seats before.net after.net
   pub adds : AddsMarks s before.seats after.seats
@@ -62,7 +62,8 @@ buried_with gone true client = option_to_list gone ++ client ∷ []
 abbrev pub buried_by : (config : Meaning) (s s' : SessionNow) (before after : Around) (r : Step)
     → SessionStep config s s' before after r → List LinkState
 buried_by config s s' before after r x =
-    buried_with (gone_of (doing s s' before after x.links.added r) x.links.touches.touch x.links.touches.touched) s'.over s'.client
+    buried_with (gone_of (doing s s' before after x.links.added r) x.links.touches.touch x.links.touches.touched)
+    s'.over s'.client
 
 -- what is around a worker's sessions
 abbrev pub around_of : WorkerNow → NetState → Around
@@ -80,5 +81,6 @@ pub record Steps (w w' : WorkerNow) (net net' : NetState) (n : SessionNo) (r : S
   pub sessions : w'.sessions ≡ placed w.sessions after
   pub buries : BuriesClient after.over after.client mid net'
   -- in the whole call just these links were buried
-  pub buried : GainsAll (buried_by w.config session after (around_of w net) (around_of w' mid) r step) net.buried net'.buried
+  pub buried : GainsAll (buried_by w.config session after (around_of w net) (around_of w' mid) r step)
+      net.buried net'.buried
   pub journals : JournalsStay most_marks w.journals w'.journals

@@ -24,7 +24,8 @@ pub record SessionStop (s : SessionNow) (client : LinkState) (seats seats' : Lis
   pub stops : IsStopped s client seats seats' net net' x.left
   pub adds : AddsMarks s seats seats'
   pub few : Each HasFewMarks adds.added
-  pub links : (turns : List ℕ) → StopLinks s client (around_with seats turns net) (around_with seats' turns net') x.served x.left
+  pub links : (turns : List ℕ)
+      → StopLinks s client (around_with seats turns net) (around_with seats' turns net') x.served x.left
   pub tells : StopTold s client x.left x.served
 
 -- the link of the connection that a stop closed, as it was buried
@@ -36,7 +37,8 @@ stop_gone_of d (Some x) t = t.goes.gone
 abbrev pub buried_at_stop : (s : SessionNow) (client : LinkState) (before after : Around) (x : Stopped)
     → StopLinks s client before after x.served x.left → List LinkState
 buried_at_stop s client before after x k =
-    buried_with (stop_gone_of (stopping s (stopped s client x.served) before after k.added x.served x.left) k.touch k.touched)
+    buried_with
+    (stop_gone_of (stopping s (stopped s client x.served) before after k.added x.served x.left) k.touch k.touched)
     true client
 
 -- the session of the least number is stopped, its client's link is buried, and every other session is as it was
@@ -53,7 +55,8 @@ pub record StopsOne (w w' : WorkerNow) (net net' : NetState) (x : Stopped) : Typ
   pub sessions : w'.sessions ≡ others
   pub buries : BuriesClient true client mid net'
   -- in the whole call just these links were buried
-  pub buried : GainsAll (buried_at_stop session client (around_with w.seats w.turns net) (around_with w'.seats w.turns mid) x
+  pub buried :
+      GainsAll (buried_at_stop session client (around_with w.seats w.turns net) (around_with w'.seats w.turns mid) x
       (stop.links w.turns)) net.buried net'.buried
   pub journals : JournalsStay most_marks w.journals w'.journals
 
