@@ -112,10 +112,14 @@ module _ (d : Doing) (x : Option Touch) (t : Touches d x) (why : LeftCause) (r :
       → (v : LinkTold) × (y : LinkTold) × ((what_of_link d.new.client).told ≡ Some v) × (told_of (after_of d x t) ≡ Some y) × RecountsBytes r.kind r (carriage_of v) (carriage_of y) why
   of_both c its other told =
       let some = conn_there d x t (Exchanging its.0) its.1 (not_none d x t r gives other) in
-      let conn = there_conn (after_of d x t) some tell.conn_tells in
-      (client.0, conn.0, client.1, conn.1,
-      of_told (told_of (after_of d x t)) conn.0 (λ y. RecountsBytes r.kind r (carriage_of client.0) y why) conn.1
-      (of_told (what_of_link d.new.client).told client.0 (λ v. WhereTold (told_of (after_of d x t)) (λ y. RecountsBytes r.kind r v y why)) client.1 told))
+      let conn = there_conn (after_of d x t) some tell.conn_tells in (
+        client.0,
+        conn.0,
+        client.1,
+        conn.1,
+        of_told (told_of (after_of d x t)) conn.0 (λ y. RecountsBytes r.kind r (carriage_of client.0) y why) conn.1
+            (of_told (what_of_link d.new.client).told client.0 (λ v. WhereTold (told_of (after_of d x t)) (λ y. RecountsBytes r.kind r v y why)) client.1 told),
+      )
 
   true_kind : (k : Kind) → r.kind ≡ k → KindTold d.old d.new (after_of d x t) why r k → IsTrueRecord d.new.client (after_of d x t) why r k
   true_kind (kind.Passed c) is told = of_both c told.0 (λ own. subst (λ (q : Kind). IsOwn q) is own) told.1
