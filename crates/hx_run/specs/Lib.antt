@@ -1,0 +1,4 @@
+pub use Rattle.hx_worker.specs.Workers
+pub use Rattle.hx_script_parts.specs.Limits
+pub mod Begins
+pub mod Runs

@@ -1,0 +1,266 @@
+//! A replay under way.
+ghost use Rattle.std.specs.Prelude.{◌≡◌, ◌<◌, ◌≤◌, ◌++◌, [], true, false, All, IfOk, OnOk, IsSome, Ok, length};
+ghost use Rattle.hx_config.specs.Limits.{all_servers};
+ghost use Rattle.hx_config.specs.Views.{meaning};
+ghost use Rattle.hx_caretaker.specs.Orders.{ordered_server};
+ghost use Rattle.hx_link.specs.MemoryNets.{IsPlan};
+ghost use Rattle.hx_script_parts.specs.Limits.{is_client_of};
+ghost use Rattle.hx_worker.specs.Workers.{session_of};
+ghost use Rattle.hx_session.specs.declared.step.Waits.TheVariants.{Ended};
+ghost use Rattle.hx_run.specs.Runs.{GoesOn, told_of};
+
+use crate::seats::{RunSeat, seats_of};
+use hx_base::{Millis, NoMemory, Order, ServerNo, SessionNo, ThreadNo};
+use hx_config::Config;
+use hx_link::{MemoryLink, MemoryNet, Net, Plan};
+use hx_record::{Left, Served, Told};
+use hx_script_parts::ClientLine;
+use hx_session::{Step, Waits};
+use hx_worker::{NoEntry, Worker};
+use std::alloc::Global;
+use std::marker::Model;
+
+/// The one thread.
+const THREAD: ThreadNo = ThreadNo(0);
+
+/// Why a replay stops before its end.
+#[derive(Clone, Copy, PartialEq, Eq, Debug)]
+pub enum Halt {
+    /// As many turns were made as may be.
+    Overrun,
+    NoMemory,
+}
+
+impl From<NoMemory> for Halt {
+    fn from(_: NoMemory) -> Halt {
+        Halt::NoMemory
+    }
+}
+
+/// Adds what a step or a stop told.
+fn tell(records: &mut Vec<Told>, served: Option<Served>, left: Option<Left>) -> Result<(), NoMemory>
+    ensures { OnOk result (records.new.items ≡ records.old.items ++ told_of served left) }
+{
+    if let Some(served) = served {
+        records.push(Told::Served(served))?;
+    }
+    if let Some(left) = left {
+        records.push(Told::Left(left))?;
+    }
+    Ok(())
+}
+
+/// Whether the step ended its session.
+fn is_over(step: Step) -> bool
+    ensures { result ≡ false → step.waits ≡ Ended → ⊥ }
+{
+    match step.waits {
+        Waits::Ended => true,
+        Waits::Nothing | Waits::Client | Waits::Server => false,
+    }
+}
+
+/// The worker and its net, what was told, and how many turns were made: a turn is a step that moved.
+#[derive(Drop)]
+pub struct Running<'a> {
+    worker: Worker<'a, RunSeat, MemoryLink>,
+    net: MemoryNet,
+    records: Vec<Told>,
+    turns: u64,
+    /// As many turns as may be made.
+    most: u64,
+}
+
+impl<'a> Model for Running<'a> {
+    ghost use Rattle.hx_run.specs.Runs.{RunNow, run_now, IsRun};
+
+    ghost Value = { RunNow };
+
+    ghost view = { λ r. run_now r.worker r.net r.records.items r.turns r.most };
+
+    ghost invariant = { λ r. IsRun (run_now r.worker r.net r.records.items r.turns r.most) };
+}
+
+impl<'a> Running<'a> {
+    /// A replay before its first moment, whose connections follow these plans. Its net has room to bury so many links, and
+    /// so many turns may be made.
+    ///
+    /// # Errors
+    /// `NoMemory`.
+    #[tactic(auto, using(crate::proofs::Beginning::begin_seats))]
+    pub fn new(
+        alloc: Global,
+        config: &'a Config,
+        plans: Vec<Plan>,
+        room: usize,
+        most: u64,
+    ) -> Result<Running<'a>, NoMemory>
+        requires plans { All IsPlan plans.items }
+        ensures config { IfOk result (λ r. r.worker.config ≡ meaning config.now) }
+        ensures empty { IfOk result (λ r. (r.worker.sessions ≡ []) × (r.records ≡ []) × (r.turns ≡ 0) × (r.most ≡ most)) }
+    {
+        let seats = seats_of(alloc, config)?;
+        let net = MemoryNet::new(alloc, plans, room)?;
+        let worker = Worker::new(alloc, THREAD, config, seats)?;
+        Ok(Running {
+            worker,
+            net,
+            records: Vec::new(alloc),
+            turns: 0,
+            most,
+        })
+    }
+
+    /// How many turns were made.
+    pub fn turns(&self) -> u64
+        ensures { result ≡ self.now.turns }
+    {
+        self.turns
+    }
+
+    /// A client comes: its link is attached to the loop, and its session begins. One that can't is buried.
+    ///
+    /// # Errors
+    /// `NoMemory`.
+    pub fn come(&mut self, line: ClientLine, now: Millis) -> Result<(), NoMemory>
+        requires client { is_client_of self.old.worker.config line ≡ true }
+        ensures goes { GoesOn self.old self.new }
+    {
+        let mut link = MemoryLink::new(line.plan);
+        if self.net.attach(&mut link).is_err() {
+            self.net.bury(link);
+            return Ok(());
+        }
+        match self.worker.admit(link, line.front, now) {
+            Ok(_) => Ok(()),
+            Err(refused) => {
+                self.net.bury(refused.client);
+                match refused.why {
+                    NoEntry::NoMemory => Err(NoMemory),
+                    NoEntry::SessionsFull | NoEntry::NumbersSpent => Ok(()),
+                }
+            }
+        }
+    }
+
+    /// Carries out an order.
+    pub fn order(&mut self, what: Order)
+        requires there { (ordered_server what).0 < length (all_servers self.old.worker.config.backs) }
+        ensures goes { GoesOn self.old self.new }
+        ensures sessions { self.new.worker.sessions ≡ self.old.worker.sessions }
+    {
+        self.worker.order(&mut self.net, what);
+    }
+
+    /// The caretaker's round.
+    pub fn tick(&mut self, now: Millis)
+        ensures goes { GoesOn self.old self.new }
+        ensures sessions { self.new.worker.sessions ≡ self.old.worker.sessions }
+    {
+        self.worker.tick(&mut self.net, now);
+    }
+
+    /// A step of a session, and what it tells.
+    fn step(&mut self, n: SessionNo, now: Millis) -> Result<Step, NoMemory>
+        requires there { IsSome (session_of self.old.worker.sessions n.0) }
+        ensures goes { GoesOn self.old self.new }
+        ensures turns { self.new.turns ≡ self.old.turns }
+        ensures stays { IfOk result (λ r. (r.waits ≡ Ended → ⊥) → IsSome (session_of self.new.worker.sessions n.0)) }
+        ensures told { IfOk result (λ r. self.new.records ≡ self.old.records ++ told_of r.served r.left) }
+    {
+        let step = self.worker.step(&mut self.net, n, now);
+        tell(&mut self.records, step.served, step.left)?;
+        Ok(step)
+    }
+
+    /// A turn of a session, if one is left. It answers whether the session goes on: it moved, and hasn't ended.
+    ///
+    /// # Errors
+    /// As many turns were made as may be, or for want of memory.
+    fn turn(&mut self, n: SessionNo, now: Millis) -> Result<bool, Halt>
+        requires there { IsSome (session_of self.old.worker.sessions n.0) }
+        ensures goes { GoesOn self.old self.new }
+        ensures moved { result ≡ Ok true → self.old.turns < self.new.turns }
+        ensures within { self.new.turns ≤ self.new.most }
+        ensures there { result ≡ Ok true → IsSome (session_of self.new.worker.sessions n.0) }
+    {
+        if self.turns >= self.most {
+            return Err(Halt::Overrun);
+        }
+        let step = self.step(n, now)?;
+        if step.moved {
+            self.turns += 1;
+        }
+        Ok(step.moved && !is_over(step))
+    }
+
+    /// A session makes its steps until one doesn't move, or it has ended.
+    ///
+    /// # Errors
+    /// As many turns were made as may be, or for want of memory.
+    fn go_on(&mut self, n: SessionNo, now: Millis) -> Result<(), Halt>
+        requires there { IsSome (session_of self.old.worker.sessions n.0) }
+        ensures goes { GoesOn self.old self.new }
+        ensures within { self.new.turns ≤ self.new.most }
+    {
+        while self.turn(n, now)? {}
+        Ok(())
+    }
+
+    /// Each session goes on, by rising number. It answers whether one moved.
+    ///
+    /// # Errors
+    /// As many turns were made as may be, or for want of memory.
+    #[tactic(auto, using(crate::proofs::Going::next_there, crate::proofs::Going::next_over))]
+    fn round(&mut self, now: Millis) -> Result<bool, Halt>
+        ensures goes { GoesOn self.old self.new }
+        ensures moved { result ≡ Ok true → self.old.turns < self.new.turns }
+        ensures within { self.new.turns ≤ self.new.most }
+    {
+        let before = self.turns;
+        let mut after = SessionNo(0);
+        while let Some(n) = self.worker.next_session(after) {
+            self.go_on(n, now)?;
+            after = n;
+        }
+        Ok(before < self.turns)
+    }
+
+    /// Rounds, until nothing moves in one.
+    ///
+    /// # Errors
+    /// As many turns were made as may be, or for want of memory.
+    pub fn rounds(&mut self, now: Millis) -> Result<(), Halt>
+        ensures goes { GoesOn self.old self.new }
+    {
+        while self.round(now)? {}
+        Ok(())
+    }
+
+    /// Stops the session of the least number. It answers whether there was one.
+    fn stop_one(&mut self) -> Result<bool, NoMemory>
+        ensures goes { GoesOn self.old self.new }
+        ensures fewer { result ≡ Ok true → length self.new.worker.sessions < length self.old.worker.sessions }
+        ensures none { result ≡ Ok false → self.new.worker.sessions ≡ [] }
+    {
+        match self.worker.stop_next(&mut self.net) {
+            Some(stopped) => {
+                tell(&mut self.records, stopped.served, Some(stopped.left))?;
+                Ok(true)
+            }
+            None => Ok(false),
+        }
+    }
+
+    /// Stops all sessions, by rising number.
+    ///
+    /// # Errors
+    /// `NoMemory`.
+    pub fn stop_all(&mut self) -> Result<(), NoMemory>
+        ensures goes { GoesOn self.old self.new }
+        ensures gone { OnOk result (self.new.worker.sessions ≡ []) }
+    {
+        while self.stop_one()? {}
+        Ok(())
+    }
+}
