@@ -1,4 +1,2 @@
 pub mod RunLemmas
 pub mod WordLemmas
-pub mod SeatCalls
-pub mod ThreeSeats

@@ -1,23 +1,9 @@
 //! Whole runs over a source and a sink in memory.
 ghost use Rattle.std.specs.Prelude.{◌≡◌, IfOk};
 
-mod answers;
-mod boards;
-mod check;
 mod configs;
-mod configurations;
-mod connections;
-mod frames;
 mod framings;
-mod heads;
-mod links;
 mod modes;
-mod numbers;
-mod pipes;
-mod scripts;
-mod seats;
-mod totals;
-mod transcripts;
 
 use crate::replay_main;
 use hx_link::{MemorySink, MemorySource, Reading, Writing};

@@ -1,0 +1,5 @@
+//! The tests, in files by subject.
+
+mod boards;
+mod seats;
+mod totals;

@@ -1,5 +1,0 @@
-use Rattle.hx_pool.specs.Purge.{StandsAt}
-use Rattle.hx_replay.proofs.tests.seats.bench.purged.Given as goal
-
-abbrev pub invariant-loop-gone : goal.invariant-loop-gone
-invariant-loop-gone l = StandsAt l.seat.history.about l.quota

@@ -1,0 +1,6 @@
+//! The tests, in files by subject.
+
+mod check;
+mod configurations;
+mod scripts;
+mod transcripts;
