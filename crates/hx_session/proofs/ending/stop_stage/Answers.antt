@@ -5,6 +5,7 @@ use Rattle.hx_session.specs.declared.stage.Stage.{Stage}
 use Rattle.hx_session.specs.Desks.{desk_now, DeskNow}
 use Rattle.hx_session.specs.Stages.{StandsSo, stage_now}
 use Rattle.hx_session.specs.Telling.{StopTells}
+use Rattle.hx_session.proofs.StandingLemmas.{cut_kept, own_kept}
 use Rattle.hx_session.proofs.ToldLemmas.{stop_own}
 use Rattle.hx_connecting.specs.Journals.{room_of}
 use Rattle.hx_connecting.proofs.RoomLemmas.{rooms_none}
@@ -58,3 +59,15 @@ returns-in-Answering-clause-touches g c =
     let status = c.in-Answering.field-0.status in
     subst (λ (x : Stage g.row.L.Denot). PartTouches d (stage_now x) seats net d1 (Ends (record { cause = cause.Stop; held = held; served = Some c.tell_own.result })) seats net) (sym c.in-Answering.is)
     (inl (refl, refl, refl, tt, own_given d status d.taken held c.tell_own.result c.tell_own.ensures.served))
+
+pub returns-in-Answering-clause-keeps : goal.returns-in-Answering-clause-keeps
+returns-in-Answering-clause-keeps g c =
+    let d : DeskNow = desk_now g.L.Link.state c.args.desk.now in
+    let d1 : DeskNow = desk_now g.L.Link.state c.tell_own.new.desk in
+    record { desk = own_kept d d1 c.tell_own.ensures.next; about = refl; loop_no = refl }
+
+pub returns-in-Exchanging-clause-keeps : goal.returns-in-Exchanging-clause-keeps
+returns-in-Exchanging-clause-keeps g c =
+    let d : DeskNow = desk_now g.L.Link.state c.args.desk.now in
+    let d1 : DeskNow = desk_now g.L.Link.state c.cut_off.new.desk in
+    record { desk = cut_kept d d1 _ _ _ c.cut_off.ensures.cuts; about = c.cut_off.ensures.about; loop_no = c.cut_off.ensures.loop_ }
