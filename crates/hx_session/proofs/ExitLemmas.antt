@@ -1,6 +1,6 @@
 -- What a step of a session leaves to its worker.
 use Rattle.std.proofs.Common.{◌≡◌, ◌<◌, ℕ, zero, suc, true, false, List, [], ◌∷◌, length, refl, sym, ap, subst, ◌∙◌, inl, inr, arith, Option, Some, None, ⊎_elim, ◌⊎◌}
-use Rattle.std.specs.Prelude.{IfSome, Contains}
+use Rattle.std.specs.Prelude.{IfSome, IsSome, Contains}
 use Rattle.std.specs.List.{slice_get, slice_set}
 use Rattle.hx_base.specs.declared.numbers.ServerNo.{ServerNo}
 use Rattle.hx_base.specs.declared.numbers.ThreadNo.{ThreadNo}
@@ -22,6 +22,8 @@ use Rattle.hx_session.specs.Seen.{conn_seen, chosen_seen, unless_held, over_seen
 use Rattle.hx_session.specs.Stages.{StageNow, Reading, Choosing, Exchanging, Answering, Left}
 use Rattle.hx_session.specs.Standing.{IsSound, IsPlaced, IsRoutedTo, IsDone, KeepsWho}
 use Rattle.hx_session.specs.Doings.{IsSameSession}
+use Rattle.hx_session.specs.Parting.{outcome_of}
+use Rattle.hx_connecting.specs.Outcomes.{ComesOut}
 use Rattle.hx_session.proofs.ClientLemmas.{client_self}
 use Rattle.hx_session.proofs.EntryLemmas.{never_back}
 
@@ -54,6 +56,14 @@ done_left d (Reading held) seats w left k e = cc
 done_left d (Choosing c) seats w left k e = cc
 done_left d (Exchanging x) seats w left k e = cc
 done_left d (Answering a) seats w left k e = cc
+
+-- how it comes out
+pub done_comes : (front : ℕ) (d : DeskNow) (s : StageNow) (seats : List History) (w : Waits) (left : Option Leave) → IsDone d s seats w left → ComesOut (outcome_of s) (session_seen front d s) left
+done_comes front d Left seats w left k = subst (λ (o : Option Leave). IsSome o) (sym k.2.1) refl
+done_comes front d (Reading held) seats w left k = tt
+done_comes front d (Choosing c) seats w left k = tt
+done_comes front d (Exchanging x) seats w left k = tt
+done_comes front d (Answering a) seats w left k = refl
 
 -- a session that goes on has its client's link on its worker's loop
 done_loop : (d : DeskNow) (s : StageNow) (seats : List History) (w : Waits) (left : Option Leave) → IsDone d s seats w left → over_seen s ≡ false → d.client.on_loop ≡ Some d.worker.0

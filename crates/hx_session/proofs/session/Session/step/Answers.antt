@@ -19,7 +19,7 @@ use Rattle.hx_connecting.specs.Ways.{SomeWay}
 use Rattle.hx_session.specs.declared.step.Step.{Step}
 use Rattle.hx_session.specs.Linking.{StepLinks}
 use Rattle.hx_session.proofs.LinkLemmas.{step_links}
-use Rattle.hx_session.proofs.ExitLemmas.{done_going, done_holds, done_same, over_same, turns_set}
+use Rattle.hx_session.proofs.ExitLemmas.{done_comes, done_going, done_holds, done_same, over_same, turns_set}
 use Rattle.hx_session.specs.Doings.{IsSameSession}
 use Rattle.hx_session.proofs.StepLemmas.{Enters, enters, goes_on_here, serves_on, turn_here}
 use Rattle.hx_session.specs.Seen.{conn_seen, session_seen}
@@ -29,7 +29,7 @@ use Rattle.hx_connecting.specs.Journals.{room_of}
 use Rattle.hx_connecting.proofs.AddingLemmas.{nothing, adds_no_touch, holds_stand}
 use Rattle.hx_connecting.proofs.RoomLemmas.{rooms_none, rooms_stay}
 use Rattle.hx_session.specs.Marking.{AddsMarks}
-use Rattle.hx_session.specs.Parting.{first_of}
+use Rattle.hx_session.specs.Parting.{first_of, outcome_of}
 use Rattle.hx_session.proofs.PartingLemmas.{adds_marks, no_marks}
 use Rattle.hx_connecting.specs.Sessions.{around_with}
 use Rattle.std.specs.List.{slice_set}
@@ -165,13 +165,13 @@ returns-clause-links g c = λ goes.
     let r : Step = record { moved = done.moved; waits = done.waits; served = done.served; left = done.left } in
     let before : Around = around_with olds c.args.turns.now net in
     let after : Around = around_with news (slice_set c.args.turns.now scene.front.now.back c.advance-stage.new.turn) net2 in
-    let w = subst (λ (x : Stage g.row.L.Denot). SomeWay d.worker d.session (first_of d) (conn_seen (stage_now x)) (conn_seen s2) olds news net net2 done.served) value c.advance-stage.ensures.touches in
+    let w = subst (λ (x : Stage g.row.L.Denot). SomeWay d.worker d.session (first_of d) (conn_seen (stage_now x)) (conn_seen s2) (outcome_of s2) olds news net net2 done.served) value c.advance-stage.ensures.touches in
     let some = sound_one d s c.self.invariant going.going in
     let told = subst (λ (x : Stage g.row.L.Denot). DoneTells d (stage_now x) d2 done.served done.left) value c.advance-stage.ensures.told in
     let records = (step_told front d d2 s s2 news done.waits done.served done.left some told c.advance-stage.ensures.done).records in
     subst (λ (x : SessionNow). StepLinks x (session_seen front d2 s2) before after r) c.self.view_is
     (step_links front d d2 s s2 before after r keeps.who.worker keeps.who.session keeps.loop_no e.placed.set.own
-    (done_holds d2 s2 news done.waits done.left c.advance-stage.ensures.done) w records)
+    (done_holds d2 s2 news done.waits done.left c.advance-stage.ensures.done) (done_comes front d2 s2 news done.waits done.left c.advance-stage.ensures.done) w records)
 
 pub returns-clause-chooses : goal.returns-clause-chooses
 returns-clause-chooses g c = λ going.
