@@ -23,7 +23,7 @@ ghost use Rattle.hx_session.specs.Standing.{IsCounted, IsPlaced, CamePlaced, IsR
 ghost use Rattle.hx_session.specs.Still.{WantsClient};
 ghost use Rattle.hx_session.specs.Telling.{MoveTells, CameTells, TellsEnd, DoneTells};
 ghost use Rattle.hx_connecting.specs.Ways.{SomeWay};
-ghost use Rattle.hx_session.specs.Parting.{CameKeeps, LetsGo, TouchesOn, TouchesAll, first_of};
+ghost use Rattle.hx_session.specs.Parting.{CameKeeps, LetsGo, TouchesOn, TouchesAll, first_of, outcome_of};
 ghost use Rattle.hx_session.specs.Seen.{conn_seen};
 ghost use Rattle.hx_session.specs.declared.stage.Came.TheVariants.{Ends};
 
@@ -668,8 +668,8 @@ pub(crate) fn advance<L: Link, S: Seat<Rested<L>>, N: Net<L = L>>(
     ensures rooms { RoomsStay S.history (room_of S.kept_from S.spare) seats.old seats.new }
     ensures done { IsDone (desk_now L.state desk.new) (stage_now result.stage) (map S.history seats.new) result.waits result.left }
     ensures touches { SomeWay desk.old.worker desk.old.session (first_of (desk_now L.state desk.old))
-        (conn_seen (stage_now stage)) (conn_seen (stage_now result.stage)) (map S.history seats.old) (map S.history seats.new)
-        (N.state net.old) (N.state net.new) result.served }
+        (conn_seen (stage_now stage)) (conn_seen (stage_now result.stage)) (outcome_of (stage_now result.stage))
+        (map S.history seats.old) (map S.history seats.new) (N.state net.old) (N.state net.new) result.served }
     ensures keeps { KeepsOver (desk_now L.state desk.old) (desk_now L.state desk.new) (map S.history seats.old) (map S.history seats.new)
         (N.state net.old) (N.state net.new) }
     ensures routed { IsRoutedTo scene.entry.back.now (stage_now result.stage) }
