@@ -1,0 +1,4 @@
+pub mod Clients
+pub mod Names
+pub mod Overs
+pub mod Parts

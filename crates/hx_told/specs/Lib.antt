@@ -1,4 +1,5 @@
+pub mod Links
+pub mod Orders
 pub mod Overs
 pub mod Servers
-pub mod Links
 pub mod Telling
