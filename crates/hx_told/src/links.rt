@@ -16,8 +16,9 @@ pub(crate) fn all_lefts(alloc: Global, records: &[Told]) -> Result<Vec<Left>, No
 {
     let mut lefts = Vec::new(alloc);
     for told in records {
-        if let Told::Left(left) = told {
-            lefts.push(*left)?;
+        match told {
+            Told::Left(left) => lefts.push(*left)?,
+            Told::Served(_) => {}
         }
     }
     Ok(lefts)
