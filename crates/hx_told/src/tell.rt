@@ -26,7 +26,7 @@ use std::alloc::Global;
 /// `NoMemory` for want of memory, now or before, so that a link doesn't tell its bytes; and where not just as many sessions
 /// ended as there are clients' links, or a session or a connection stands twice.
 fn tell_net(alloc: Global, records: &[Told], net: MemoryNet) -> Result<LinkBytes, NoMemory>
-    ensures links { IfOk result (λ told. TellsLinks records.now net.links told.clients.items told.conns.items) }
+    ensures links { IfOk result (λ told. TellsLinks records.now net told.clients.items told.conns.items) }
     ensures clients { IfOk result (λ told. Rises ClientBefore told.clients.items) }
     ensures conns { IfOk result (λ told. Rises ConnBefore told.conns.items) }
 {
@@ -97,7 +97,7 @@ pub fn tell_run<V: Faced>(
     ensures servers { IfOk result (λ t. t.servers ≡ parts_of (named_servers config.now.backs) seats.now) }
     ensures totals { IfOk result (λ t. t.totals ≡ all_sums seats.now) }
     ensures records { IfOk result (λ t. t.records ≡ records) }
-    ensures links { IfOk result (λ t. TellsLinks records net.links t.clients t.conns) }
+    ensures links { IfOk result (λ t. TellsLinks records net t.clients t.conns) }
 {
     let names = name_servers(alloc, config)?;
     let servers = tell_servers(alloc, names, seats)?;
