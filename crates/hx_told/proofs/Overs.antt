@@ -1,5 +1,5 @@
 -- The servers of a run that is over are true.
-use Rattle.std.proofs.Common.{◌≡◌, ℕ, ◌-◌, Bool, true, false, cond, List, [], ◌∷◌, ◌++◌, map, length, drop, All, refl, sym, ap, ◌∙◌, subst, arith, eq-eqb, Option, Some, None, inl, inr}
+use Rattle.std.proofs.Common.{◌≡◌, ℕ, ◌-◌, Bool, true, false, cond, List, [], ◌∷◌, ◌++◌, map, length, drop, All, refl, sym, ap, ◌∙◌, subst, arith, eq-eqb, Option, Some, None}
 use Rattle.std.specs.List.{AllZip, flat_map}
 use Rattle.std.proofs.lemmas.List.{map-append}
 use Rattle.std.proofs.lemmas.List.Elements.{All-head, All-tail}
@@ -13,11 +13,11 @@ use Rattle.hx_pool.specs.declared.entries.Note.{Note}
 use Rattle.hx_pool.specs.History.{thread_of, is_by, own_of, marks_of, entries_of}
 use Rattle.hx_pool.specs.Journal.{Journal, journal_from}
 use Rattle.hx_pool.specs.Rules.{KeepsMode, KeepsLimit}
-use Rattle.hx_pool.specs.SeatView.{About, History, AllBelow, StillKept}
+use Rattle.hx_pool.specs.SeatView.{About, History, AllBelow}
 use Rattle.hx_pool.specs.Totals.{totals_of}
+use Rattle.hx_run.specs.Overs.{IsOver, AreOver}
 use Rattle.hx_script.specs.TrueTranscript.{IsTrueServer, AreTrueServers}
 use Rattle.hx_told.specs.declared.servers.Named.{Named}
-use Rattle.hx_told.specs.Overs.{IsOver, AreOver}
 use Rattle.hx_told.specs.Servers.{named_of, named_servers, part_of, parts_of, IsWhole, sums_of, all_sums}
 
 all_own : (t : ThreadNo) (xs : List Note) → t.0 ≡ 0 → AllBelow 1 xs → own_of t xs ≡ xs
@@ -34,13 +34,12 @@ all_mine s j o =
     sym (all_own j.history.about.thread j.history.seen (ap (λ (a : About). a.thread.0) o.about) below) ∙ o.one.own_part
 
 -- the journal has all marks
-from_start : (j : Journal) (b : Bool) → b ≡ true → StillKept (Some 0) (cond b (Some (length (marks_of j.history.mine) - length j.stored)) None)
+from_start : (j : Journal) (b : Bool) → b ≡ true → cond b (Some (length (marks_of j.history.mine) - length j.stored)) None ≡ Some 0
     → length (marks_of j.history.mine) - length j.stored ≡ 0
-from_start j true w (inl e) = cc
-from_start j true w (inr e) = absurd (cc)
-from_start j false w k = absurd (cc)
+from_start j true w e = cc
+from_start j false w e = absurd (cc)
 
-all_stored : (j : Journal) → IsWhole j → StillKept (Some 0) (journal_from j) → j.stored ≡ marks_of j.history.mine
+all_stored : (j : Journal) → IsWhole j → journal_from j ≡ Some 0 → j.stored ≡ marks_of j.history.mine
 all_stored j w k = w.recounts ∙ ap (λ n. drop n (marks_of j.history.mine)) (from_start j j.whole w.whole k)
 
 true_server : (n : Named) (s : Server) (j : Journal) → n.rules ≡ s.rules → IsOver s j → IsWhole j → IsTrueServer (part_of n j) (sums_of j)

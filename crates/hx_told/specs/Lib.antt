@@ -1,5 +1,4 @@
 pub mod Links
 pub mod Orders
-pub mod Overs
 pub mod Servers
 pub mod Telling
