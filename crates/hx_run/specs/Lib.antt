@@ -1,4 +1,5 @@
 pub use Rattle.hx_worker.specs.Workers
 pub use Rattle.hx_script_parts.specs.Limits
 pub mod Begins
+pub mod Overs
 pub mod Runs

@@ -1,0 +1,4 @@
+pub mod Links
+pub mod Orders
+pub mod Servers
+pub mod Telling
