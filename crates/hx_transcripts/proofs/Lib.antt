@@ -1,0 +1,9 @@
+pub mod Told
+pub mod ListLemmas
+pub mod FormLemmas
+pub mod ServerLemmas
+pub mod RecordLemmas
+pub mod LinkLemmas
+pub mod SumLemmas
+pub mod Soundness
+pub mod ReadLines
