@@ -37,7 +37,10 @@ fn read_lines(alloc: Global, lines: &mut Lines<'_>) -> Result<(Reading, u32), St
     let mut read = begun(alloc);
     let mut last: u32 = 1;
     while let Some(bytes) = lines.next() {
-        read = numbered_line(read, last + 1, bytes)?;
+        match numbered_line(read, last + 1, bytes) {
+            Ok(more) => read = more,
+            Err(stop) => return Err(stop),
+        }
         last += 1;
     }
     Ok((read, last))
