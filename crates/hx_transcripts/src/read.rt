@@ -104,6 +104,8 @@ fn transcript_of(parts: Parts) -> Transcript
 pub fn read_transcript(alloc: Global, text: &[u8]) -> Result<Transcript, TextFault>
     // What is read is printed as the text.
     ensures spells { IfOk result (λ t. Spells text.now t) }
+    // A text that is read is not too long.
+    ensures short { IfOk result (λ _. length text.now ≤ meant.longest_text) }
     // It is what the lines say, one after the other, and they have no fault.
     ensures reads { IfOk result (λ t. meant.meaning_of text.now ≡ Ok (meant.parts_of t)) }
     // A fault is the text's first one, unless memory ran out.

@@ -6,3 +6,6 @@ transcript_of-requires c = (meaning_sound c.args.text.now c.in-Ok.parts c.in-Ok.
 
 pub returns-in-Ok-clause-spells : goal.returns-in-Ok-clause-spells
 returns-in-Ok-clause-spells c = text_printed c.args.text.now c.in-Ok.parts c.transcript_of.result c.in-Ok.ensures c.transcript_of.ensures
+
+pub returns-in-Ok-clause-short : goal.returns-in-Ok-clause-short
+returns-in-Ok-clause-short c = (meaning_sound c.args.text.now c.in-Ok.parts c.in-Ok.ensures).short
