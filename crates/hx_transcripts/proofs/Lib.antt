@@ -7,3 +7,8 @@ pub mod LinkLemmas
 pub mod SumLemmas
 pub mod Soundness
 pub mod ReadLines
+pub mod Passing
+pub mod Cleanness
+pub mod WholeServers
+pub mod WholeRecords
+pub mod WholeLinks

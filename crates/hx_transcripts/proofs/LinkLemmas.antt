@@ -109,7 +109,7 @@ regroup : (h w l q e : List ℕ) → h ++ w ++ l ++ q ++ e ≡ h ++ (w ++ (l ++ 
 regroup h w l q e = simp append_assoc
 
 -- a client's line, by its words
-client_words : (l : List ℕ) (ws rest : Rest) (t : ThreadNo) (n : SessionNo) (b : List ℕ)
+pub client_words : (l : List ℕ) (ws rest : Rest) (t : ThreadNo) (n : SessionNo) (b : List ℕ)
     → rest_text ws ≡ 32 ∷ who t n ++ rest_text rest → rest_text rest ≡ l ++ quoted b
     → codes "client" ++ rest_text ws ++ codes "\n" ≡ codes "client " ++ who t n ++ l ++ quoted b ++ codes "\n"
 client_words l ws rest t n b names is =
@@ -138,7 +138,7 @@ pub record IsGave (h : HalfClient) (ws : Rest) (c : ClientBytes) : Type 0 where
   pub session : c.session.0 ≡ h.session.0
   pub text : client_lines c ≡ half_client (Some h) ++ (codes "client" ++ rest_text ws ++ codes "\n")
 
-regroup_both : (c w t p n v g q : List ℕ)
+pub regroup_both : (c w t p n v g q : List ℕ)
     → c ++ w ++ t ++ p ++ (n ++ c) ++ v ++ g ++ q ++ n ≡ (c ++ w ++ t ++ p ++ n) ++ (c ++ v ++ g ++ q ++ n)
 regroup_both c w t p n v g q = simp append_assoc
 
@@ -210,7 +210,7 @@ client_adds r (Some h) ws s half good holds is =
 
 -- ---- connections
 
-conn_words : (l w : List ℕ) (ws rest : Rest) (b : List ℕ) → rest_text ws ≡ 32 ∷ w ++ rest_text rest → rest_text rest ≡ l ++ quoted b
+pub conn_words : (l w : List ℕ) (ws rest : Rest) (b : List ℕ) → rest_text ws ≡ 32 ∷ w ++ rest_text rest → rest_text rest ≡ l ++ quoted b
     → codes "conn" ++ rest_text ws ++ codes "\n" ≡ codes "conn " ++ w ++ l ++ quoted b ++ codes "\n"
 conn_words l w ws rest b names is =
     ap (λ (x : List ℕ). codes "conn" ++ x ++ codes "\n") names

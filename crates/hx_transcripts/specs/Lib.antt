@@ -1,4 +1,5 @@
 pub mod Faults
+pub mod Fits
 pub mod Forms
 pub mod Lines
 pub mod Links
