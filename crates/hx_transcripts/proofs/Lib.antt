@@ -12,3 +12,5 @@ pub mod Cleanness
 pub mod WholeServers
 pub mod WholeRecords
 pub mod WholeLinks
+pub mod WholeSums
+pub mod Completeness

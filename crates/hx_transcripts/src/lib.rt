@@ -3,6 +3,7 @@
 
 mod fault;
 mod form;
+mod laws;
 mod lines;
 mod links;
 mod read;
@@ -11,4 +12,5 @@ mod records;
 mod servers;
 mod sums;
 
+pub use laws::printed_is_read_back;
 pub use read::read_transcript;
