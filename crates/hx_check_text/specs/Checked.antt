@@ -6,6 +6,7 @@ use Rattle.hx_script.specs.declared.transcript.Transcript.{Transcript}
 use Rattle.hx_script.specs.Printed.{Spells}
 use Rattle.hx_script_parts.specs.declared.fault.TextFault.TheVariants as text
 use Rattle.hx_transcripts.specs.Faults.{IsFaultOf}
+use Rattle.hx_transcripts.specs.Fits.{Fits}
 use Rattle.hx_transcripts.specs.Meaning.{longest_text, meaning_of}
 use Rattle.hx_check_text.specs.declared.check.Checked.{Checked}
 use Rattle.hx_check_text.specs.declared.check.Checked.TheVariants as checked
@@ -20,8 +21,13 @@ IsJudged t (checked.Fault line rule) = ⊥
 abbrev pub SpellsJudged : List ℕ → Checked → Type 0
 SpellsJudged bytes c = (t : Transcript) × Spells bytes t × (length bytes ≤ longest_text) × IsJudged t c
 
--- of a text: a fault is its first one; else it spells a transcript, and what is found is found of that
+-- the fault is the text's first one, and the text spells no transcript within the limit that a program can have
+pub record IsFault (bytes : List ℕ) (line rule : ℕ) : Type 0 where
+  pub first : IsFaultOf (text.At line rule) (meaning_of bytes)
+  pub none : (t : Transcript) → Fits t → length bytes ≤ longest_text → ¬ Spells bytes t
+
+-- of a text: it has a fault; or it spells a transcript, and what is found is found of that
 abbrev pub IsChecked : List ℕ → Checked → Type 0
-IsChecked bytes (checked.Fault line rule) = IsFaultOf (text.At line rule) (meaning_of bytes)
+IsChecked bytes (checked.Fault line rule) = IsFault bytes line rule
 IsChecked bytes checked.Holds = SpellsJudged bytes checked.Holds
 IsChecked bytes (checked.Broken rule line) = SpellsJudged bytes (checked.Broken rule line)

@@ -1,8 +1,8 @@
 -- No line feed stands inside a printed line.
-use Rattle.std.proofs.Common.{◌≡◌, ℕ, ◌+◌, ◌≤◌, ◌/◌, ◌%◌, Bool, true, false, List, [], ◌∷◌, ◌++◌, All, Option, Some, None, refl, sym, ap, subst, ◌∙◌, arith, inl, inr, append_assoc}
-use Rattle.std.specs.Prelude.{codes, decimal, not, ◌==◌, ◌||◌, ◌&&◌, nat_lt, nat_le, cond, slice_get}
+use Rattle.std.proofs.Common.{◌≡◌, ℕ, ◌+◌, ◌≤◌, ◌/◌, ◌%◌, Bool, true, false, List, [], ◌∷◌, ◌++◌, refl, sym, ap, ◌∙◌, arith, inl, inr}
+use Rattle.std.specs.Prelude.{codes, decimal, not, ◌==◌, ◌||◌, ◌&&◌, nat_lt, nat_le, cond}
 use Rattle.std.specs.List.{flat_map, list_all}
-use Rattle.std.proofs.lemmas.Bool.{cases_Bool, cond-true, cond-false, eqb-true, ne_eqb, leb-true}
+use Rattle.std.proofs.lemmas.Bool.{cases_Bool, cond-true, cond-false, eqb-true, ne_eqb}
 use Rattle.hx_base.specs.Names.{is_name_byte, IsName}
 use Rattle.hx_base.specs.declared.numbers.ThreadNo.{ThreadNo}
 use Rattle.hx_base.specs.declared.numbers.SessionNo.{SessionNo}
@@ -10,12 +10,10 @@ use Rattle.hx_base.specs.declared.numbers.PlaceNo.{PlaceNo}
 use Rattle.hx_base.specs.declared.numbers.ConnId.{ConnId}
 use Rattle.hx_base.specs.declared.numbers.Span.{Span}
 use Rattle.hx_config_parts.specs.Numbers.{is_digit}
-use Rattle.hx_script.specs.declared.transcript.ServerPart.{ServerPart}
 use Rattle.hx_script.specs.MarkLines.{who, place_text, who_conn, place_uses}
-use Rattle.hx_script.specs.PrintedForm.{IsToldServer}
 use Rattle.hx_script.specs.RecordLines.{span_text}
 use Rattle.hx_script_parts.specs.ByteText.{hex_digit, escaped, quoted}
-use Rattle.hx_transcripts_parts.specs.Numbers.{most_8, most_16, most_32, most_64}
+use Rattle.hx_transcripts_parts.specs.Numbers.{most_16, most_64}
 use Rattle.hx_transcripts_parts.specs.ReadBack.{FitsWho, FitsPlace, FitsSpan}
 use Rattle.hx_transcripts_parts.proofs.NumberLemmas as numbers
 use Rattle.hx_transcripts.proofs.Passing.{no_feed, HasNoFeed, Clean}

@@ -1,8 +1,8 @@
 -- What is printed is read back.
-use Rattle.std.proofs.Common.{◌≡◌, ℕ, ◌+◌, ◌-◌, ◌<◌, ◌≤◌, Bool, true, false, List, [], ◌∷◌, ◌++◌, All, length, Option, Some, None, Result, Ok, Err, refl, sym, ap, subst, ◌∙◌, arith, inl, inr, append_assoc}
-use Rattle.std.specs.Prelude.{codes, ⊤, nat_lt, cond, bytes_eq}
+use Rattle.std.proofs.Common.{◌≡◌, ℕ, ◌+◌, ◌≤◌, Bool, true, false, List, [], ◌∷◌, ◌++◌, length, Some, None, Result, Ok, refl, sym, ap, subst, ◌∙◌, arith, inl, inr, append_assoc}
+use Rattle.std.specs.Prelude.{codes, nat_lt}
 use Rattle.std.specs.List.{flat_map}
-use Rattle.std.proofs.lemmas.Bool.{cases_Bool, cond-true, cond-false, ltb-true}
+use Rattle.std.proofs.lemmas.Bool.{cases_Bool, cond-false, ltb-true}
 use Rattle.std.proofs.lemmas.List.{append-nil}
 use Rattle.std.proofs.Math.Logic.{∥∥₁_elim}
 use Rattle.std.proofs.Props.{props}
@@ -14,7 +14,6 @@ use Rattle.hx_script.specs.Printed.{first_line, printed, Spells}
 use Rattle.hx_script.specs.PrintedForm.{HasPrintedForm}
 use Rattle.hx_script.specs.RecordLines.{record_line}
 use Rattle.hx_script_parts.specs.Lexical.{lines_of}
-use Rattle.hx_transcripts_parts.specs.Faults.{◌>>=◌}
 use Rattle.hx_transcripts_parts.specs.ReadBack.{AreNamed}
 use Rattle.hx_transcripts_parts.proofs.WordLemmas.{bind_is}
 use Rattle.hx_transcripts.specs.declared.fault.Flaw.{Flaw}
@@ -33,11 +32,10 @@ use Rattle.hx_transcripts.specs.Servers as servers
 use Rattle.hx_transcripts.proofs.ListLemmas.{last_later}
 use Rattle.hx_transcripts.proofs.Passing.{Passes, both_pass, line_passes, line_split}
 use Rattle.hx_transcripts.proofs.Soundness.{whole_printed}
-use Rattle.hx_transcripts.proofs.Told.{whole_told}
 use Rattle.hx_transcripts.proofs.WholeServers.{servers_pass}
 use Rattle.hx_transcripts.proofs.WholeRecords.{with_records, records_pass}
 use Rattle.hx_transcripts.proofs.WholeLinks.{with_clients, clients_pass, conns_pass, with_totals, behind_clients}
-use Rattle.hx_transcripts.proofs.WholeSums.{with_sums, sums_pass, over, end_passes}
+use Rattle.hx_transcripts.proofs.WholeSums.{with_sums, sums_pass, end_passes}
 
 -- ---- headings
 
@@ -81,7 +79,7 @@ body_passes t fits form =
     let start : ServersRead = record { done = []; current = None } in
     let a = servers_pass start t.servers form.other_names form.servers_told fits.servers in
     let b : Passes (reading.Servers a.end) (codes "records\n") (with_records t.servers []) =
-        subst (λ (ps : List ServerPart). Passes (reading.Servers a.end) (codes "records\n") (with_records ps [])) a.closed (records_heading a.end) in
+    subst (λ (ps : List ServerPart). Passes (reading.Servers a.end) (codes "records\n") (with_records ps [])) a.closed (records_heading a.end) in
     let c = records_pass t.servers [] t.records named form.records_told fits.records in
     let d = links_heading t in
     let e = clients_pass t.servers t.records [] t.clients form.clients_rise fits.clients in
@@ -135,7 +133,7 @@ all_read b p h = (1 + h.count, ap (λ (x : List ℕ). lines_read 1 nothing_read 
 shut_so : (t : Transcript) → is_closed (first_line ++ body t) ≡ true
 shut_so t =
     let front = (((((flat_map server_lines t.servers ++ codes "records\n") ++ flat_map (record_line t.servers) t.records) ++ codes "links\n")
-        ++ flat_map client_lines t.clients) ++ (flat_map (conn_lines t.servers) t.conns ++ codes "totals\n")) ++ totals_lines t.servers t.totals in
+    ++ flat_map client_lines t.clients) ++ (flat_map (conn_lines t.servers) t.conns ++ codes "totals\n")) ++ totals_lines t.servers t.totals in
     ap is_closed (sym (append_assoc first_line front (codes "end\n"))) ∙ ap closes (last_end (first_line ++ front))
 
 meant_whole : (t : Transcript) → Passes nothing_read (body t) (reading.Over (parts_of t))

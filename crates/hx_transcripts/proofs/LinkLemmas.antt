@@ -1,7 +1,7 @@
 -- Lines where links stand.
-use Rattle.std.proofs.Common.{◌≡◌, ℕ, ◌<◌, Bool, true, false, List, [], ◌∷◌, ◌++◌, All, length, Option, Some, None, Result, Ok, Err, refl, sym, ap, ap₂, subst, ◌∙◌, inl, inr, append_assoc}
+use Rattle.std.proofs.Common.{◌≡◌, ℕ, ◌<◌, Bool, true, false, List, [], ◌∷◌, ◌++◌, All, length, Option, Some, None, Ok, refl, sym, ap, ap₂, subst, ◌∙◌, inl, inr, append_assoc}
 use Rattle.std.specs.Prelude.{codes, decimal, ⊤, not, ◌==◌, ◌||◌, is_some, bytes_eq, slice_get}
-use Rattle.std.specs.List.{flat_map, list_all}
+use Rattle.std.specs.List.{list_all}
 use Rattle.std.proofs.lemmas.Bool.{cases_Bool, cond-true, cond-false, eqb-true}
 use Rattle.std.proofs.lemmas.List.{append-nil, flat_map_more}
 use Rattle.std.proofs.lemmas.List.Elements.{All-nil, All-push}
@@ -13,18 +13,17 @@ use Rattle.hx_base.specs.declared.numbers.ConnId.{ConnId}
 use Rattle.hx_record.specs.declared.bytes.ClientBytes.{ClientBytes}
 use Rattle.hx_record.specs.declared.bytes.ConnBytes.{ConnBytes}
 use Rattle.hx_script.specs.declared.transcript.ServerPart.{ServerPart}
-use Rattle.hx_script.specs.LinkLines.{client_lines, conn_lines, totals_lines}
+use Rattle.hx_script.specs.LinkLines.{client_lines, conn_lines}
 use Rattle.hx_script.specs.MarkLines.{who}
 use Rattle.hx_script.specs.Numbers.{IsByte}
-use Rattle.hx_script.specs.PrintedForm.{Rises, PairBefore, ClientBefore, ConnBefore}
+use Rattle.hx_script.specs.PrintedForm.{PairBefore, ClientBefore, ConnBefore}
 use Rattle.hx_script.specs.RecordLines.{name_or_none, conn_text}
 use Rattle.hx_script_parts.specs.ByteText.{quoted}
-use Rattle.hx_transcripts_parts.specs.declared.fault.Rule.{Rule}
-use Rattle.hx_transcripts_parts.specs.declared.fault.Rule.TheVariants.{BadLine, WrongOrder}
+use Rattle.hx_transcripts_parts.specs.declared.fault.Rule.TheVariants.{WrongOrder}
 use Rattle.hx_transcripts_parts.specs.Faults.{◌>>=◌, unless}
 use Rattle.hx_transcripts_parts.specs.Lexical.{Rest, rest_text, is_inside, read_word, text_at, at_end}
 use Rattle.hx_transcripts_parts.specs.Pieces.{who_in, conn_in}
-use Rattle.hx_transcripts_parts.specs.ReadBack.{ReadsWord, ReadsNext, ReadsLine, AreNamed, FitsWho, FitsConn}
+use Rattle.hx_transcripts_parts.specs.ReadBack.{ReadsWord, ReadsLine, AreNamed, FitsWho, FitsConn}
 use Rattle.hx_transcripts_parts.proofs.LineLemmas.{next_sound, last_sound}
 use Rattle.hx_transcripts_parts.proofs.PieceLemmas.{who_reads, conn_reads}
 use Rattle.hx_transcripts_parts.proofs.TextLemmas.{texts_read}
@@ -40,7 +39,7 @@ use Rattle.hx_transcripts.specs.declared.reading.Reading.TheVariants as reading
 use Rattle.hx_transcripts.specs.Links as means
 use Rattle.hx_transcripts.proofs.FormLemmas.{IsWordOf}
 use Rattle.hx_transcripts.proofs.ListLemmas.{more, rises_pushed, pair_before, on, no_totals}
-use Rattle.hx_transcripts.proofs.Told.{records_told, clients_told, conns_told, half_client, half_conn, told, Adds, IsGood, ClientsHold, ConnsHold, HalfClientHolds, HalfConnHolds}
+use Rattle.hx_transcripts.proofs.Told.{records_told, clients_told, conns_told, half_client, half_conn, Adds, IsGood, ClientsHold, ConnsHold, HalfClientHolds, HalfConnHolds}
 
 -- ---- labels and bytes
 
@@ -75,19 +74,21 @@ bytes_read this other each =
       sound = λ ws b is.
           let l = next_sound (read_word (means.label_in this other)) (λ (x : ⊤). this) (λ (x : ⊤). ⊤) labels ws _ b is in
           let t = next_sound text_at quoted (All IsByte) texts_read l.rest _ b l.more in
-          let e = last_sound t.rest t.x b t.more in
-          (subst (All IsByte) e.1 t.fits,
-           l.stands ∙ ap (λ (x : List ℕ). 32 ∷ (this ++ x)) t.stands
-               ∙ ap (λ (x : List ℕ). 32 ∷ (this ++ (32 ∷ (quoted t.x ++ x)))) e.0
-               ∙ ap (λ (x : List ℕ). 32 ∷ (this ++ (32 ∷ x))) (append-nil (quoted t.x))
-               ∙ ap (λ (x : List ℕ). label_text this x) e.1);
+          let e = last_sound t.rest t.x b t.more in (
+            subst (All IsByte) e.1 t.fits,
+            l.stands ∙ ap (λ (x : List ℕ). 32 ∷ (this ++ x)) t.stands
+                ∙ ap (λ (x : List ℕ). 32 ∷ (this ++ (32 ∷ (quoted t.x ++ x)))) e.0
+                ∙ ap (λ (x : List ℕ). 32 ∷ (this ++ (32 ∷ x))) (append-nil (quoted t.x))
+                ∙ ap (λ (x : List ℕ). label_text this x) e.1,
+          );
       whole = λ b fits.
           let t = texts_read.whole b None fits in
-          let l = labels.whole tt t.0 tt in
-          (l.0,
-           l.1 ∙ ap (λ (x : List ℕ). 32 ∷ (this ++ x)) t.1 ∙ ap (λ (x : List ℕ). 32 ∷ (this ++ (32 ∷ x))) (append-nil (quoted b)),
-           bind_is (λ (x : ⊤ × Rest). text_at x.1 >>= λ y. at_end y.1 >>= λ e. Ok y.0) l.2
-               ∙ bind_is (λ (y : List ℕ × Rest). at_end y.1 >>= λ e. Ok y.0) t.2);
+          let l = labels.whole tt t.0 tt in (
+            l.0,
+            l.1 ∙ ap (λ (x : List ℕ). 32 ∷ (this ++ x)) t.1 ∙ ap (λ (x : List ℕ). 32 ∷ (this ++ (32 ∷ x))) (append-nil (quoted b)),
+            bind_is (λ (x : ⊤ × Rest). text_at x.1 >>= λ y. at_end y.1 >>= λ e. Ok y.0) l.2
+                ∙ bind_is (λ (y : List ℕ × Rest). at_end y.1 >>= λ e. Ok y.0) t.2,
+          );
     }
 
 -- ---- numbers that are the same

@@ -1,15 +1,14 @@
 -- Texts whose lines are read one after the other.
-use Rattle.std.proofs.Common.{◌≡◌, ℕ, ◌+◌, Bool, true, false, List, [], ◌∷◌, ◌++◌, Option, Some, None, Result, Ok, Err, refl, sym, ap, subst, ◌∙◌, arith, inl, inr, append_assoc}
-use Rattle.std.specs.Prelude.{codes, not, ◌==◌, bytes_eq}
+use Rattle.std.proofs.Common.{◌≡◌, ℕ, ◌+◌, Bool, true, false, List, [], ◌∷◌, ◌++◌, Result, Ok, refl, sym, ap, subst, ◌∙◌, arith, append_assoc}
+use Rattle.std.specs.Prelude.{codes, not, ◌==◌}
 use Rattle.std.specs.List.{list_all}
-use Rattle.std.proofs.lemmas.Bool.{cases_Bool, and_parts, cond-false}
+use Rattle.std.proofs.lemmas.Bool.{and_parts, cond-false}
 use Rattle.std.proofs.lemmas.List.{append_cancel_right}
 use Rattle.hx_script_parts.specs.Lexical.{on_first, lines_of}
 use Rattle.hx_transcripts_parts.specs.declared.fault.Rule.{Rule}
 use Rattle.hx_transcripts_parts.specs.Faults.{◌>>=◌}
-use Rattle.hx_transcripts_parts.specs.Lexical.{Rest, rest_text, is_inside, word_at}
+use Rattle.hx_transcripts_parts.specs.Lexical.{Rest, rest_text, is_inside}
 use Rattle.hx_transcripts_parts.proofs.WordLemmas.{bind_is, word_whole}
-use Rattle.hx_transcripts.specs.declared.fault.Flaw.{Flaw}
 use Rattle.hx_transcripts.specs.declared.form.Form.{Form}
 use Rattle.hx_transcripts.specs.declared.reading.Reading.{Reading}
 use Rattle.hx_transcripts.specs.Forms.{form_in}

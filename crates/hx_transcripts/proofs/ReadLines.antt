@@ -1,5 +1,5 @@
 -- Lines, one after the other.
-use Rattle.std.proofs.Common.{◌≡◌, ℕ, ◌+◌, ◌≤◌, List, [], ◌∷◌, length, Result, Ok, Err, sym, ap, ◌∙◌, arith}
+use Rattle.std.proofs.Common.{◌≡◌, ℕ, ◌+◌, ◌≤◌, List, [], ◌∷◌, length, Result, Ok, sym, ap, ◌∙◌, arith}
 use Rattle.hx_script_parts.specs.Lexical.{lines_of}
 use Rattle.hx_script_parts.proofs.ReadLines.{lines_few}
 use Rattle.hx_transcripts_parts.specs.Faults.{◌>>=◌}

@@ -1,14 +1,11 @@
 -- Lines where records stand.
-use Rattle.std.proofs.Common.{◌≡◌, ℕ, List, [], ◌∷◌, ◌++◌, All, length, None, Result, Ok, Err, refl, sym, ap, subst, ◌∙◌, append_assoc}
-use Rattle.std.specs.Prelude.{codes, ⊤}
-use Rattle.std.specs.List.{flat_map}
+use Rattle.std.proofs.Common.{◌≡◌, ℕ, List, ◌++◌, length, Ok, sym, ap, subst, ◌∙◌}
+use Rattle.std.specs.Prelude.{codes}
 use Rattle.std.proofs.lemmas.List.{append-nil}
 use Rattle.std.proofs.lemmas.List.Elements.{All-push}
 use Rattle.hx_script.specs.PrintedForm.{IsToldRecord}
 use Rattle.hx_script.specs.RecordLines.{record_line}
-use Rattle.hx_transcripts_parts.specs.declared.fault.Rule.{Rule}
 use Rattle.hx_transcripts_parts.specs.declared.keywords.RecordWord.{RecordWord}
-use Rattle.hx_transcripts_parts.specs.Faults.{◌>>=◌}
 use Rattle.hx_transcripts_parts.specs.Lexical.{Rest, rest_text, at_end}
 use Rattle.hx_transcripts_parts.specs.RecordLaws.{record_text}
 use Rattle.hx_transcripts_parts.specs.Records.{record_at}
@@ -22,7 +19,7 @@ use Rattle.hx_transcripts.specs.declared.reading.Reading.TheVariants as reading
 use Rattle.hx_transcripts.specs.Records as means
 use Rattle.hx_transcripts.proofs.FormLemmas.{IsWordOf}
 use Rattle.hx_transcripts.proofs.ListLemmas.{more}
-use Rattle.hx_transcripts.proofs.Told.{servers_told, records_told, Adds, IsGood, RecordsHold, ClientsHold}
+use Rattle.hx_transcripts.proofs.Told.{servers_told, records_told, Adds, IsGood}
 
 record_adds : (r : RecordsRead) (first : RecordWord) (ws : Rest) (s : Reading) → IsGood (reading.Records r) → means.record_line r first ws ≡ Ok s
     → Adds (reading.Records r) (record_text first ++ rest_text ws ++ codes "\n") s

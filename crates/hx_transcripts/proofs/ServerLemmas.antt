@@ -1,7 +1,6 @@
 -- Lines where servers stand.
-use Rattle.std.proofs.Common.{◌≡◌, ℕ, ◌+◌, Bool, true, false, List, [], ◌∷◌, ◌++◌, All, Option, Some, None, Result, Ok, Err, refl, sym, ap, subst, ◌∙◌, inl, inr, append_assoc}
-use Rattle.std.specs.Prelude.{codes, decimal, ⊤, is_some, bytes_eq, ◌&&◌}
-use Rattle.std.specs.List.{flat_map}
+use Rattle.std.proofs.Common.{◌≡◌, ℕ, ◌+◌, true, false, List, [], ◌∷◌, ◌++◌, Option, Ok, refl, sym, ap, subst, ◌∙◌, inl, inr, append_assoc}
+use Rattle.std.specs.Prelude.{codes, decimal, is_some, bytes_eq}
 use Rattle.std.proofs.lemmas.Bool.{cases_Bool, cond-true, cond-false, and_from}
 use Rattle.std.proofs.lemmas.List.{flat_map_more, append-nil}
 use Rattle.std.proofs.lemmas.List.Elements.{All-nil, All-push}
@@ -12,10 +11,9 @@ use Rattle.hx_script.specs.declared.transcript.ServerPart.{ServerPart}
 use Rattle.hx_script.specs.MarkLines.{mark_line, mode_text, max_text, server_line, server_lines}
 use Rattle.hx_script.specs.Printed.{first_line}
 use Rattle.hx_script.specs.PrintedForm.{IsToldMark, IsToldServer, OtherName, OtherNames}
-use Rattle.hx_transcripts_parts.specs.declared.fault.Rule.{Rule}
 use Rattle.hx_transcripts_parts.specs.declared.fault.Rule.TheVariants.{WrongOrder}
 use Rattle.hx_transcripts_parts.specs.declared.keywords.MarkWord.{MarkWord}
-use Rattle.hx_transcripts_parts.specs.Faults.{◌>>=◌, unless, or_broken}
+use Rattle.hx_transcripts_parts.specs.Faults.{unless, or_broken}
 use Rattle.hx_transcripts_parts.specs.Lexical.{Rest, rest_text, read_word, at_end}
 use Rattle.hx_transcripts_parts.specs.MarkLaws.{mark_text, rules_text}
 use Rattle.hx_transcripts_parts.specs.Marks.{mark_at, rules_at}
@@ -34,7 +32,7 @@ use Rattle.hx_transcripts.specs.declared.reading.Reading.TheVariants as reading
 use Rattle.hx_transcripts.specs.Servers as means
 use Rattle.hx_transcripts.proofs.FormLemmas.{IsWordOf}
 use Rattle.hx_transcripts.proofs.ListLemmas.{all_front, all_last}
-use Rattle.hx_transcripts.proofs.Told.{servers_told, Adds, told, IsGood, RecordsHold}
+use Rattle.hx_transcripts.proofs.Told.{servers_told, Adds, IsGood}
 
 -- ---- names that no server has
 

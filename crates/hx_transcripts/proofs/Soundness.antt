@@ -1,6 +1,6 @@
 -- What is read of a text is printed as the text.
-use Rattle.std.proofs.Common.{◌≡◌, ℕ, suc, ◌+◌, ◌-◌, ◌≤◌, Bool, true, false, List, [], ◌∷◌, ◌++◌, All, length, Option, Some, None, Result, Ok, Err, refl, sym, ap, subst, ◌∙◌, arith, inl, inr, append_assoc}
-use Rattle.std.specs.Prelude.{codes, ⊤, not, ◌==◌, nat_lt, cond, bytes_eq, slice_get}
+use Rattle.std.proofs.Common.{◌≡◌, ℕ, ◌+◌, ◌-◌, ◌≤◌, Bool, true, false, List, [], ◌∷◌, ◌++◌, length, Some, Result, Ok, Err, refl, sym, ap, subst, ◌∙◌, arith, inl, inr, append_assoc}
+use Rattle.std.specs.Prelude.{codes, ◌==◌, nat_lt, cond, bytes_eq, slice_get}
 use Rattle.std.specs.List.{flat_map}
 use Rattle.std.proofs.lemmas.Bool.{cases_Bool, cond-true, cond-false, eqb-true, ltb-false}
 use Rattle.std.proofs.lemmas.List.{append-nil}
@@ -17,14 +17,13 @@ use Rattle.hx_transcripts_parts.specs.declared.fault.Rule.{Rule}
 use Rattle.hx_transcripts_parts.specs.Faults.{◌>>=◌}
 use Rattle.hx_transcripts_parts.specs.Lexical.{Rest, rest_text, word_at}
 use Rattle.hx_transcripts_parts.proofs.WordLemmas.{ok_is, bind_ok, word_stands}
-use Rattle.hx_transcripts.specs.declared.fault.Flaw.{Flaw}
 use Rattle.hx_transcripts.specs.declared.form.Form.{Form}
 use Rattle.hx_transcripts.specs.declared.reading.Parts.{Parts}
 use Rattle.hx_transcripts.specs.declared.reading.Reading.{Reading}
 use Rattle.hx_transcripts.specs.declared.reading.Reading.TheVariants as reading
 use Rattle.hx_transcripts.specs.Forms.{form_in}
 use Rattle.hx_transcripts.specs.Lines.{nothing_read, said, line_read}
-use Rattle.hx_transcripts.specs.Meaning.{longest_text, flaw, located, lines_read, closes, is_closed, ended, finished, lines_meant, meaning_of, parts_of}
+use Rattle.hx_transcripts.specs.Meaning.{longest_text, located, lines_read, closes, is_closed, ended, finished, lines_meant, meaning_of, parts_of}
 use Rattle.hx_transcripts.proofs.FormLemmas.{IsWordOf, form_sound}
 use Rattle.hx_transcripts.proofs.ListLemmas.{last_later}
 use Rattle.hx_transcripts.proofs.Told.{told, whole_told, Adds, IsGood}

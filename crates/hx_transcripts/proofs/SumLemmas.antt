@@ -1,17 +1,15 @@
 -- Lines where totals stand.
-use Rattle.std.proofs.Common.{◌≡◌, ℕ, suc, ◌+◌, ◌<◌, Bool, true, false, List, [], ◌∷◌, ◌++◌, All, length, drop, Option, Some, None, Result, Ok, Err, refl, sym, ap, subst, ◌∙◌, arith, append_assoc}
-use Rattle.std.specs.Prelude.{codes, ⊤, not, ◌==◌, slice_get}
+use Rattle.std.proofs.Common.{◌≡◌, ℕ, ◌<◌, List, [], ◌∷◌, ◌++◌, length, drop, Some, Ok, sym, ap, subst, ◌∙◌, arith, append_assoc}
+use Rattle.std.specs.Prelude.{codes, not, ◌==◌, slice_get}
 use Rattle.std.proofs.lemmas.Bool.{eqb-true}
 use Rattle.std.proofs.lemmas.List.{append-nil}
 use Rattle.hx_base.specs.declared.totals.Totals.{Totals}
 use Rattle.hx_script.specs.declared.transcript.ServerPart.{ServerPart}
 use Rattle.hx_script.specs.LinkLines.{totals_text, totals_lines}
 use Rattle.hx_script.specs.MarkLines.{full_name}
-use Rattle.hx_script.specs.PrintedForm.{HasPrintedForm}
 use Rattle.hx_script.specs.RecordLines.{name_or_none}
-use Rattle.hx_transcripts_parts.specs.declared.fault.Rule.{Rule}
 use Rattle.hx_transcripts_parts.specs.declared.fault.Rule.TheVariants.{WrongOrder, NoSuchName}
-use Rattle.hx_transcripts_parts.specs.Faults.{◌>>=◌, unless, or_broken}
+use Rattle.hx_transcripts_parts.specs.Faults.{unless, or_broken}
 use Rattle.hx_transcripts_parts.specs.Lexical.{Rest, rest_text, read_word, at_end}
 use Rattle.hx_transcripts_parts.specs.Pieces.{name_in, server_from}
 use Rattle.hx_transcripts_parts.specs.ReadBack.{FitsNames}
@@ -27,7 +25,7 @@ use Rattle.hx_transcripts.specs.declared.reading.Reading.TheVariants as reading
 use Rattle.hx_transcripts.specs.Sums as means
 use Rattle.hx_transcripts.proofs.FormLemmas.{IsWordOf}
 use Rattle.hx_transcripts.proofs.ListLemmas.{on, no_totals}
-use Rattle.hx_transcripts.proofs.Told.{conns_told, totals_told, Adds, IsGood, ConnsHold}
+use Rattle.hx_transcripts.proofs.Told.{conns_told, totals_told, Adds, IsGood}
 
 pub totals_more : (servers : List ServerPart) (totals : List Totals) (t : Totals) → length totals < length servers
     → totals_lines servers (totals ++ t ∷ []) ≡ totals_lines servers totals ++ (name_or_none (slice_get servers (length totals)) ++ totals_text t)
@@ -69,9 +67,9 @@ total_adds r l s good is =
     let lt = subst (λ (n : ℕ). n < length r.servers) at name.within in
     let here = name_or_none (slice_get r.servers (length r.totals)) in
     let line : here ++ totals_text t.0 ≡ l ++ codes "\n" =
-        ap (λ (x : List ℕ). here ++ x) (sym total.1) ∙ sym (append_assoc here (rest_text i.0.1) (codes "\n"))
-        ∙ ap (λ (n : ℕ). (name_or_none (slice_get r.servers n) ++ rest_text i.0.1) ++ codes "\n") (sym at)
-        ∙ ap (λ (x : List ℕ). x ++ codes "\n") (sym name.text) in
+    ap (λ (x : List ℕ). here ++ x) (sym total.1) ∙ sym (append_assoc here (rest_text i.0.1) (codes "\n"))
+    ∙ ap (λ (n : ℕ). (name_or_none (slice_get r.servers n) ++ rest_text i.0.1) ++ codes "\n") (sym at)
+    ∙ ap (λ (x : List ℕ). x ++ codes "\n") (sym name.text) in
     subst (Adds (reading.Totals r) (l ++ codes "\n")) (ok_is _ s t.2)
     (record {
       good = good;

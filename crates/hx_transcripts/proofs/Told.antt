@@ -1,5 +1,5 @@
 -- The text of what was read so far, and what holds of it.
-use Rattle.std.proofs.Common.{◌≡◌, ℕ, ◌<◌, true, List, [], ◌∷◌, ◌++◌, All, length, Option, Some, None}
+use Rattle.std.proofs.Common.{◌≡◌, ℕ, ◌<◌, true, List, [], ◌++◌, All, length, Option, Some, None}
 use Rattle.std.specs.Prelude.{codes, ⊤}
 use Rattle.std.specs.List.{flat_map}
 use Rattle.hx_base.specs.declared.totals.Totals.{Totals}

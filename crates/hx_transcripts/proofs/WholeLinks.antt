@@ -1,8 +1,8 @@
 -- The lines of links are read.
-use Rattle.std.proofs.Common.{◌≡◌, ℕ, ◌+◌, ◌<◌, ◌≤◌, Bool, true, false, List, [], ◌∷◌, ◌++◌, All, length, Option, Some, None, Result, Ok, refl, sym, ap, subst, ◌∙◌, arith, inl, inr, append_assoc}
-use Rattle.std.specs.Prelude.{codes, decimal, ⊤, not, ◌==◌, ◌||◌, ◌&&◌, nat_lt, is_some}
-use Rattle.std.specs.List.{flat_map, list_all}
-use Rattle.std.proofs.lemmas.Bool.{cases_Bool, cond-true, and_from, or_right, eq-eqb, lt-ltb}
+use Rattle.std.proofs.Common.{◌≡◌, ℕ, ◌<◌, ◌≤◌, Bool, true, List, [], ◌∷◌, ◌++◌, All, length, Option, Some, None, Ok, refl, sym, ap, subst, ◌∙◌, inl, inr, append_assoc}
+use Rattle.std.specs.Prelude.{codes, ⊤, not, ◌==◌, ◌||◌, ◌&&◌, nat_lt}
+use Rattle.std.specs.List.{flat_map}
+use Rattle.std.proofs.lemmas.Bool.{and_from, or_right, eq-eqb, lt-ltb}
 use Rattle.std.proofs.lemmas.List.{append-nil}
 use Rattle.std.proofs.lemmas.List.Elements.{All-head, All-tail}
 use Rattle.hx_base.specs.declared.numbers.ThreadNo.{ThreadNo}
@@ -15,23 +15,19 @@ use Rattle.hx_record.specs.declared.served.Told.{Told}
 use Rattle.hx_script.specs.declared.transcript.ServerPart.{ServerPart}
 use Rattle.hx_script.specs.LinkLines.{client_lines, conn_lines}
 use Rattle.hx_script.specs.MarkLines.{who}
-use Rattle.hx_script.specs.Numbers.{IsByte}
 use Rattle.hx_script.specs.PrintedForm.{Rises, PairBefore, ClientBefore, ConnBefore}
 use Rattle.hx_script.specs.RecordLines.{conn_text}
 use Rattle.hx_script_parts.specs.ByteText.{quoted}
-use Rattle.hx_transcripts_parts.specs.declared.fault.Rule.{Rule}
 use Rattle.hx_transcripts_parts.specs.declared.fault.Rule.TheVariants.{WrongOrder}
 use Rattle.hx_transcripts_parts.specs.Faults.{◌>>=◌, unless}
-use Rattle.hx_transcripts_parts.specs.Lexical.{Rest, rest_text, is_inside, read_word}
-use Rattle.hx_transcripts_parts.specs.Numbers.{most_16, most_64}
+use Rattle.hx_transcripts_parts.specs.Lexical.{Rest, rest_text, read_word}
+use Rattle.hx_transcripts_parts.specs.Numbers.{most_64}
 use Rattle.hx_transcripts_parts.specs.Pieces.{who_in, conn_in}
 use Rattle.hx_transcripts_parts.specs.ReadBack.{ReadsNext, AreNamed, FitsWho, FitsConn}
 use Rattle.hx_transcripts_parts.proofs.NumberLemmas.{some_is}
 use Rattle.hx_transcripts_parts.proofs.PieceLemmas.{who_reads, conn_reads}
 use Rattle.hx_transcripts_parts.proofs.WordLemmas.{bind_is, word_reads}
-use Rattle.hx_transcripts.specs.declared.form.Form.{Form}
 use Rattle.hx_transcripts.specs.declared.form.Form.TheVariants as form
-use Rattle.hx_transcripts.specs.declared.reading.ClientsRead.{ClientsRead}
 use Rattle.hx_transcripts.specs.declared.reading.ConnsRead.{ConnsRead}
 use Rattle.hx_transcripts.specs.declared.reading.HalfClient.{HalfClient}
 use Rattle.hx_transcripts.specs.declared.reading.HalfConn.{HalfConn}
@@ -42,7 +38,7 @@ use Rattle.hx_transcripts.specs.Forms.{form_in}
 use Rattle.hx_transcripts.specs.Lines.{said}
 use Rattle.hx_transcripts.specs.Links as means
 use Rattle.hx_transcripts.proofs.Cleanness.{join, lit, clean_who, clean_quoted}
-use Rattle.hx_transcripts.proofs.LinkLemmas.{label_text, bytes_read, client_words, conn_words, regroup_both}
+use Rattle.hx_transcripts.proofs.LinkLemmas.{bytes_read, client_words, conn_words, regroup_both}
 use Rattle.hx_transcripts.proofs.ListLemmas.{last_later}
 use Rattle.hx_transcripts.proofs.Passing.{Clean, IsLine, Passes, none_passes, both_pass, line_passes}
 use Rattle.hx_transcripts.proofs.WholeRecords.{clean_conn}
@@ -100,9 +96,9 @@ took_read : (clients : List ClientBytes) (c : ClientBytes) (ws behind : Rest) �
     → means.client_took clients ws ≡ Ok (half_of c)
 took_read clients c ws behind follows names bytes =
     bind_is (λ (x : (ThreadNo × SessionNo) × Rest). unless (not (means.follows_clients clients x.0.0 x.0.1)) WrongOrder >>= λ (next : ⊤).
-        means.bytes_at (codes "took") (codes "gave") x.1 >>= λ (took : List ℕ). Ok (record { worker = x.0.0; session = x.0.1; took = took })) names
+    means.bytes_at (codes "took") (codes "gave") x.1 >>= λ (took : List ℕ). Ok (record { worker = x.0.0; session = x.0.1; took = took })) names
     ∙ ap (λ (t : Bool). unless (not t) WrongOrder >>= λ (next : ⊤).
-        means.bytes_at (codes "took") (codes "gave") behind >>= λ (took : List ℕ). Ok (record { worker = c.worker; session = c.session; took = took })) follows
+    means.bytes_at (codes "took") (codes "gave") behind >>= λ (took : List ℕ). Ok (record { worker = c.worker; session = c.session; took = took })) follows
     ∙ bind_is (λ (took : List ℕ). Ok (record { worker = c.worker; session = c.session; took = took })) bytes
 
 gave_read : (c : ClientBytes) (ws behind : Rest)
@@ -110,11 +106,11 @@ gave_read : (c : ClientBytes) (ws behind : Rest)
     → means.client_gave (half_of c) ws ≡ Ok c
 gave_read c ws behind names bytes =
     bind_is (λ (x : (ThreadNo × SessionNo) × Rest). unless (not (x.0.0.0 == c.worker.0) || not (x.0.1.0 == c.session.0)) WrongOrder >>= λ (same : ⊤).
-        means.bytes_at (codes "gave") (codes "took") x.1 >>= λ (gave : List ℕ). Ok (record { worker = x.0.0; session = x.0.1; took = c.took; gave = gave })) names
+    means.bytes_at (codes "gave") (codes "took") x.1 >>= λ (gave : List ℕ). Ok (record { worker = x.0.0; session = x.0.1; took = c.took; gave = gave })) names
     ∙ ap (λ (t : Bool). unless (not t || not (c.session.0 == c.session.0)) WrongOrder >>= λ (same : ⊤).
-        means.bytes_at (codes "gave") (codes "took") behind >>= λ (gave : List ℕ). Ok (record { worker = c.worker; session = c.session; took = c.took; gave = gave })) (eq-eqb c.worker.0 c.worker.0 refl)
+    means.bytes_at (codes "gave") (codes "took") behind >>= λ (gave : List ℕ). Ok (record { worker = c.worker; session = c.session; took = c.took; gave = gave })) (eq-eqb c.worker.0 c.worker.0 refl)
     ∙ ap (λ (t : Bool). unless (not true || not t) WrongOrder >>= λ (same : ⊤).
-        means.bytes_at (codes "gave") (codes "took") behind >>= λ (gave : List ℕ). Ok (record { worker = c.worker; session = c.session; took = c.took; gave = gave })) (eq-eqb c.session.0 c.session.0 refl)
+    means.bytes_at (codes "gave") (codes "took") behind >>= λ (gave : List ℕ). Ok (record { worker = c.worker; session = c.session; took = c.took; gave = gave })) (eq-eqb c.session.0 c.session.0 refl)
     ∙ bind_is (λ (gave : List ℕ). Ok (record { worker = c.worker; session = c.session; took = c.took; gave = gave })) bytes
 
 took_said : (servers : List ServerPart) (records : List Told) (clients : List ClientBytes) (c : ClientBytes) (ws : Rest) → means.client_took clients ws ≡ Ok (half_of c)
@@ -161,7 +157,7 @@ clients_pass servers records clients (c ∷ more) rise fits =
     let s = with_clients servers records clients (Some (half_of c)) in
     let t = with_clients servers records (clients ++ c ∷ []) None in
     let both = both_pass r s t (client_text (codes " took ") c c.took) (client_text (codes " gave ") c c.gave)
-        (took_passes servers records clients c here follows) (gave_passes servers records clients c here) in
+    (took_passes servers records clients c here follows) (gave_passes servers records clients c here) in
     let one = subst (λ (x : List ℕ). Passes r x t) (client_both c) both in
     let same = append_assoc clients (c ∷ []) more in
     let rest = clients_pass servers records (clients ++ c ∷ []) more (subst (Rises ClientBefore) (sym same) rise) (All-tail FitsClient c more fits) in
@@ -218,9 +214,9 @@ sent_read : (r : ConnsRead) (c : ConnBytes) (ws behind : Rest) → means.follows
     → means.conn_sent r ws ≡ Ok (half_conn_of c)
 sent_read r c ws behind follows names bytes =
     bind_is (λ (x : (ServerNo × ConnId) × Rest). unless (not (means.follows_conns r.conns x.0.0 x.0.1)) WrongOrder >>= λ (next : ⊤).
-        means.bytes_at (codes "sent") (codes "took") x.1 >>= λ (sent : List ℕ). Ok (record { server = x.0.0; id = x.0.1; sent = sent })) names
+    means.bytes_at (codes "sent") (codes "took") x.1 >>= λ (sent : List ℕ). Ok (record { server = x.0.0; id = x.0.1; sent = sent })) names
     ∙ ap (λ (t : Bool). unless (not t) WrongOrder >>= λ (next : ⊤).
-        means.bytes_at (codes "sent") (codes "took") behind >>= λ (sent : List ℕ). Ok (record { server = c.server; id = c.id; sent = sent })) follows
+    means.bytes_at (codes "sent") (codes "took") behind >>= λ (sent : List ℕ). Ok (record { server = c.server; id = c.id; sent = sent })) follows
     ∙ bind_is (λ (sent : List ℕ). Ok (record { server = c.server; id = c.id; sent = sent })) bytes
 
 conn_took_read : (r : ConnsRead) (c : ConnBytes) (ws behind : Rest)
@@ -228,11 +224,11 @@ conn_took_read : (r : ConnsRead) (c : ConnBytes) (ws behind : Rest)
     → means.conn_took r (half_conn_of c) ws ≡ Ok c
 conn_took_read r c ws behind names bytes =
     bind_is (λ (x : (ServerNo × ConnId) × Rest). unless (not (x.0.0.0 == c.server.0) || not (x.0.1.0 == c.id.0)) WrongOrder >>= λ (same : ⊤).
-        means.bytes_at (codes "took") (codes "sent") x.1 >>= λ (took : List ℕ). Ok (record { server = x.0.0; id = x.0.1; sent = c.sent; took = took })) names
+    means.bytes_at (codes "took") (codes "sent") x.1 >>= λ (took : List ℕ). Ok (record { server = x.0.0; id = x.0.1; sent = c.sent; took = took })) names
     ∙ ap (λ (t : Bool). unless (not t || not (c.id.0 == c.id.0)) WrongOrder >>= λ (same : ⊤).
-        means.bytes_at (codes "took") (codes "sent") behind >>= λ (took : List ℕ). Ok (record { server = c.server; id = c.id; sent = c.sent; took = took })) (eq-eqb c.server.0 c.server.0 refl)
+    means.bytes_at (codes "took") (codes "sent") behind >>= λ (took : List ℕ). Ok (record { server = c.server; id = c.id; sent = c.sent; took = took })) (eq-eqb c.server.0 c.server.0 refl)
     ∙ ap (λ (t : Bool). unless (not true || not t) WrongOrder >>= λ (same : ⊤).
-        means.bytes_at (codes "took") (codes "sent") behind >>= λ (took : List ℕ). Ok (record { server = c.server; id = c.id; sent = c.sent; took = took })) (eq-eqb c.id.0 c.id.0 refl)
+    means.bytes_at (codes "took") (codes "sent") behind >>= λ (took : List ℕ). Ok (record { server = c.server; id = c.id; sent = c.sent; took = took })) (eq-eqb c.id.0 c.id.0 refl)
     ∙ bind_is (λ (took : List ℕ). Ok (record { server = c.server; id = c.id; sent = c.sent; took = took })) bytes
 
 sent_said : (servers : List ServerPart) (records : List Told) (clients : List ClientBytes) (conns : List ConnBytes) (c : ConnBytes) (ws : Rest)
@@ -303,11 +299,11 @@ conns_pass r servers records clients conns (c ∷ more) at named rise fits there
     let next = conns_read servers records clients (conns ++ c ∷ []) None in
     let t = reading.Conns next in
     let both = both_pass r s t (conn_line_text (codes " sent ") servers c c.sent) (conn_line_text (codes " took ") servers c c.took)
-        (sent_passes r servers records clients conns c at named fit lt follows) (conn_took_passes servers records clients conns c named fit lt) in
+    (sent_passes r servers records clients conns c at named fit lt follows) (conn_took_passes servers records clients conns c named fit lt) in
     let one = subst (λ (x : List ℕ). Passes r x t) (conn_both servers c) both in
     let same = append_assoc conns (c ∷ []) more in
     let rest = conns_pass t servers records clients (conns ++ c ∷ []) more (at_conns next) named (subst (Rises ConnBefore) (sym same) rise)
-        (All-tail FitsConnBytes c more fits) (All-tail (λ (x : ConnBytes). x.server.0 < length servers) c more there) in
+    (All-tail FitsConnBytes c more fits) (All-tail (λ (x : ConnBytes). x.server.0 < length servers) c more there) in
     let end = with_totals servers records clients ((conns ++ c ∷ []) ++ more) in
     let all = both_pass r t end (conn_lines servers c) (flat_map (conn_lines servers) more ++ codes "totals\n") one rest in
     let text = subst (λ (x : List ℕ). Passes r x end) (sym (append_assoc (conn_lines servers c) (flat_map (conn_lines servers) more) (codes "totals\n"))) all in

@@ -1,5 +1,5 @@
 -- The lines of records are read.
-use Rattle.std.proofs.Common.{◌≡◌, ℕ, suc, zero, ◌≤◌, Bool, true, false, List, [], ◌∷◌, ◌++◌, All, length, Option, Some, None, Result, Ok, refl, sym, ap, subst, ◌∙◌, arith, append_assoc}
+use Rattle.std.proofs.Common.{◌≡◌, ℕ, suc, zero, ◌≤◌, Bool, true, false, List, [], ◌∷◌, ◌++◌, All, length, Ok, refl, sym, subst, arith, append_assoc}
 use Rattle.std.specs.Prelude.{codes, decimal, slice_get}
 use Rattle.std.specs.List.{flat_map, list_all}
 use Rattle.std.proofs.lemmas.List.{append-nil}
@@ -23,9 +23,8 @@ use Rattle.hx_script.specs.PrintedForm.{IsToldServer, IsToldRecord}
 use Rattle.hx_script.specs.RecordLines.{span_text, name_or_none, conn_text, closing_text, cut_closing_text, cut_text, cause_text, link_ranges, carried_text, begin_text, kind_line, record_line}
 use Rattle.hx_transcripts_parts.specs.declared.keywords.RecordWord.{RecordWord}
 use Rattle.hx_transcripts_parts.specs.declared.keywords.RecordWord.TheVariants as first
-use Rattle.hx_transcripts_parts.specs.Faults.{◌>>=◌}
-use Rattle.hx_transcripts_parts.specs.Lexical.{Rest, rest_text, is_inside}
-use Rattle.hx_transcripts_parts.specs.Numbers.{most_16, most_32, most_64}
+use Rattle.hx_transcripts_parts.specs.Lexical.{Rest, is_inside}
+use Rattle.hx_transcripts_parts.specs.Numbers.{most_64}
 use Rattle.hx_transcripts_parts.specs.ReadBack.{AreNamed, FitsSpan, FitsWho}
 use Rattle.hx_transcripts_parts.specs.RecordLaws.{record_text, FitsCarried, FitsKind, FitsTold}
 use Rattle.hx_transcripts_parts.specs.Records.{record_at}

@@ -1,8 +1,8 @@
 -- The lines of servers and of their marks are read.
-use Rattle.std.proofs.Common.{◌≡◌, ℕ, ◌+◌, ◌≤◌, Bool, true, false, List, [], ◌∷◌, ◌++◌, All, Option, Some, None, Result, Ok, Err, refl, sym, ap, subst, ◌∙◌, arith, inl, inr, append_assoc}
-use Rattle.std.specs.Prelude.{codes, decimal, ⊤, is_some, bytes_eq, ◌&&◌}
+use Rattle.std.proofs.Common.{◌≡◌, ℕ, ◌+◌, Bool, true, false, List, [], ◌∷◌, ◌++◌, All, Option, Some, None, Ok, refl, sym, ap, subst, ◌∙◌, arith, inl, inr, append_assoc}
+use Rattle.std.specs.Prelude.{codes, decimal, ⊤, is_some, bytes_eq}
 use Rattle.std.specs.List.{flat_map, list_all}
-use Rattle.std.proofs.lemmas.Bool.{cases_Bool, cond-true, cond-false, and_parts}
+use Rattle.std.proofs.lemmas.Bool.{cases_Bool, cond-false, and_parts}
 use Rattle.std.proofs.lemmas.List.{append-nil}
 use Rattle.std.proofs.lemmas.List.Elements.{All-nil, All-cons, All-head, All-tail}
 use Rattle.std.proofs.lemmas.Slice.Eq.{bytes_eq-Decides}
@@ -14,7 +14,6 @@ use Rattle.hx_pool.specs.declared.entries.Entry.TheVariants as entry
 use Rattle.hx_script.specs.declared.transcript.ServerPart.{ServerPart}
 use Rattle.hx_script.specs.MarkLines.{mark_line, mode_text, max_text, full_name, who_conn, place_uses, round_line, server_line, server_lines}
 use Rattle.hx_script.specs.PrintedForm.{IsToldMark, IsToldServer, OtherName, OtherNames}
-use Rattle.hx_transcripts_parts.specs.declared.fault.Rule.{Rule}
 use Rattle.hx_transcripts_parts.specs.declared.fault.Rule.TheVariants.{WrongOrder}
 use Rattle.hx_transcripts_parts.specs.declared.keywords.MarkWord.{MarkWord}
 use Rattle.hx_transcripts_parts.specs.declared.keywords.MarkWord.TheVariants as mark
@@ -22,7 +21,6 @@ use Rattle.hx_transcripts_parts.specs.Faults.{◌>>=◌, unless}
 use Rattle.hx_transcripts_parts.specs.Lexical.{Rest, rest_text, is_inside, read_word}
 use Rattle.hx_transcripts_parts.specs.MarkLaws.{mark_text, rules_text, FitsMark, FitsMax, FitsRules}
 use Rattle.hx_transcripts_parts.specs.Marks.{mark_at, rules_at}
-use Rattle.hx_transcripts_parts.specs.Numbers.{most_32, most_64}
 use Rattle.hx_transcripts_parts.specs.Pieces.{name_in, has_names, server_from}
 use Rattle.hx_transcripts_parts.specs.ReadBack.{FitsNames}
 use Rattle.hx_transcripts_parts.proofs.MarkLemmas.{mark_whole}
@@ -38,7 +36,7 @@ use Rattle.hx_transcripts.specs.Fits.{FitsServer}
 use Rattle.hx_transcripts.specs.Forms.{form_in}
 use Rattle.hx_transcripts.specs.Servers as means
 use Rattle.hx_transcripts.proofs.Cleanness.{join, lit, clean_number, clean_name, clean_who_conn, clean_place_uses}
-use Rattle.hx_transcripts.proofs.Passing.{Clean, IsLine, Passes, one_passes, none_passes, both_pass, line_passes}
+use Rattle.hx_transcripts.proofs.Passing.{Clean, IsLine, Passes, none_passes, both_pass, line_passes}
 
 -- ---- marks
 
@@ -200,8 +198,8 @@ unfolding means.servers_said
 server_said r p ws behind new names rules =
     let servers = means.closed r.done r.current in
     let one : means.new_names_at servers ws ≡ Ok ((p.back, p.server), behind) =
-        bind_is (λ (x : (List ℕ × List ℕ) × Rest). unless (is_some (server_from 0 x.0.0 x.0.1 servers)) WrongOrder >>= λ (new : ⊤). Ok x) names
-        ∙ ap (λ (b : Bool). unless b WrongOrder >>= λ (new : ⊤). Ok ((p.back, p.server), behind)) new in
+    bind_is (λ (x : (List ℕ × List ℕ) × Rest). unless (is_some (server_from 0 x.0.0 x.0.1 servers)) WrongOrder >>= λ (new : ⊤). Ok x) names
+    ∙ ap (λ (b : Bool). unless b WrongOrder >>= λ (new : ⊤). Ok ((p.back, p.server), behind)) new in
     bind_is (λ (x : (List ℕ × List ℕ) × Rest). rules_at x.1 >>= λ (rules : PoolRules). Ok (reading.Servers (record {
       done = servers;
       current = Some (record { back = x.0.0; server = x.0.1; rules = rules; marks = [] });

@@ -1,23 +1,19 @@
 -- The lines of totals are read.
-use Rattle.std.proofs.Common.{◌≡◌, ℕ, suc, ◌+◌, ◌<◌, ◌≤◌, Bool, true, false, List, [], ◌∷◌, ◌++◌, All, length, Option, Some, None, Result, Ok, refl, sym, ap, subst, ◌∙◌, arith, inl, inr, append_assoc}
+use Rattle.std.proofs.Common.{◌≡◌, ℕ, ◌+◌, ◌<◌, ◌≤◌, Bool, true, List, [], ◌∷◌, ◌++◌, All, length, Option, Some, None, Ok, refl, sym, ap, subst, ◌∙◌, arith, inl, inr, append_assoc}
 use Rattle.std.specs.Prelude.{codes, decimal, ⊤, not, ◌==◌, bytes_eq, slice_get}
 use Rattle.std.specs.List.{list_all}
-use Rattle.std.proofs.lemmas.Bool.{cases_Bool, cond-true, cond-false, eq-eqb}
+use Rattle.std.proofs.lemmas.Bool.{cases_Bool, cond-false, eq-eqb}
 use Rattle.std.proofs.lemmas.List.{append-nil, length-append}
 use Rattle.std.proofs.lemmas.List.Elements.{All-head, All-tail}
 use Rattle.std.proofs.lemmas.Slice.Eq.{bytes_eq-Decides}
 use Rattle.hx_base.specs.declared.totals.Totals.{Totals}
-use Rattle.hx_base.specs.Names.{IsName}
 use Rattle.hx_config_parts.specs.Tables.{found}
 use Rattle.hx_record.specs.declared.bytes.ClientBytes.{ClientBytes}
 use Rattle.hx_record.specs.declared.bytes.ConnBytes.{ConnBytes}
 use Rattle.hx_record.specs.declared.served.Told.{Told}
 use Rattle.hx_script.specs.declared.transcript.ServerPart.{ServerPart}
 use Rattle.hx_script.specs.LinkLines.{totals_text, totals_lines}
-use Rattle.hx_script.specs.MarkLines.{full_name}
-use Rattle.hx_script.specs.PrintedForm.{IsToldServer}
 use Rattle.hx_script.specs.RecordLines.{name_or_none}
-use Rattle.hx_transcripts_parts.specs.declared.fault.Rule.{Rule}
 use Rattle.hx_transcripts_parts.specs.declared.fault.Rule.TheVariants.{BadLine, WrongOrder, NoSuchName}
 use Rattle.hx_transcripts_parts.specs.declared.keywords.MarkWord.{MarkWord}
 use Rattle.hx_transcripts_parts.specs.declared.keywords.RecordWord.{RecordWord}
@@ -26,12 +22,12 @@ use Rattle.hx_transcripts_parts.specs.Keywords.{mark_words, record_words}
 use Rattle.hx_transcripts_parts.specs.Lexical.{Rest, rest_text, is_inside, read_word}
 use Rattle.hx_transcripts_parts.specs.Numbers.{cut_at}
 use Rattle.hx_transcripts_parts.specs.Pieces.{name_in, server_from}
-use Rattle.hx_transcripts_parts.specs.ReadBack.{FitsNames, AreNamed}
+use Rattle.hx_transcripts_parts.specs.ReadBack.{AreNamed}
 use Rattle.hx_transcripts_parts.specs.RecordLaws.{FitsTotals}
 use Rattle.hx_transcripts_parts.specs.Records.{totals_at}
 use Rattle.hx_transcripts_parts.proofs.PieceLemmas.{names_read, server_whole}
 use Rattle.hx_transcripts_parts.proofs.TotalsLemmas.{totals_whole}
-use Rattle.hx_transcripts_parts.proofs.WordLemmas.{ok_is, bind_ok, bind_is, there_is, word_whole}
+use Rattle.hx_transcripts_parts.proofs.WordLemmas.{bind_ok, bind_is, there_is, word_whole}
 use Rattle.hx_transcripts.specs.declared.form.Form.{Form}
 use Rattle.hx_transcripts.specs.declared.form.Form.TheVariants as form
 use Rattle.hx_transcripts.specs.declared.reading.TotalsRead.{TotalsRead}
@@ -130,8 +126,8 @@ unfolding means.totals_said
 total_said servers records clients conns totals t w y ws name inside at read =
     let r : TotalsRead = record { servers = servers; records = records; clients = clients; conns = conns; totals = totals } in
     let one : means.named_at servers (Some (w ++ rest_text ws)) ≡ Ok (length totals, ws) =
-        bind_is (λ (x : (List ℕ × List ℕ) × Rest). or_broken NoSuchName (server_from 0 x.0.0 x.0.1 servers) >>= λ (i : ℕ). Ok (i, x.1)) (name_read w y ws name inside)
-        ∙ ap (λ (o : Option ℕ). or_broken NoSuchName o >>= λ (i : ℕ). Ok (i, ws)) at in
+    bind_is (λ (x : (List ℕ × List ℕ) × Rest). or_broken NoSuchName (server_from 0 x.0.0 x.0.1 servers) >>= λ (i : ℕ). Ok (i, x.1)) (name_read w y ws name inside)
+    ∙ ap (λ (o : Option ℕ). or_broken NoSuchName o >>= λ (i : ℕ). Ok (i, ws)) at in
     bind_is (λ (i : ℕ × Rest). unless (not (i.0 == length totals)) WrongOrder >>= λ (next : ⊤). totals_at i.1 >>= λ (x : Totals). Ok (with_sums servers records clients conns (totals ++ x ∷ []))) one
     ∙ ap (λ (b : Bool). unless (not b) WrongOrder >>= λ (next : ⊤). totals_at ws >>= λ (x : Totals). Ok (with_sums servers records clients conns (totals ++ x ∷ []))) (eq-eqb (length totals) (length totals) refl)
     ∙ bind_is (λ (x : Totals). Ok (with_sums servers records clients conns (totals ++ x ∷ []))) read
@@ -149,7 +145,7 @@ total_passes servers records clients conns totals t named lt fits =
     let r = with_sums servers records clients conns totals in
     let s = with_sums servers records clients conns (totals ++ t ∷ []) in
     let text : w ++ totals_text t ≡ w ++ rest_text x.0 ++ codes "\n" =
-        ap (λ (z : List ℕ). w ++ z) (sym x.1) ∙ sym (append_assoc w (rest_text x.0) (codes "\n")) in
+    ap (λ (z : List ℕ). w ++ z) (sym x.1) ∙ sym (append_assoc w (rest_text x.0) (codes "\n")) in
     let at : server_from 0 h.back h.server servers ≡ Some (length totals) = h.alone 0 ∙ ap (λ (n : ℕ). Some n) (omega arith) in
     subst (λ (z : List ℕ). Passes r (z ++ totals_text t) s) (sym h.is)
     (line_passes r (w ++ totals_text t) w x.0 form.Total s (named_line w (totals_text t) clean (totals_clean t fits)) text inside (name_form w (h.back, h.server) name inside)

@@ -1,5 +1,5 @@
 -- The lines of records.
-use Rattle.std.specs.Prelude.{List, [], ◌∷◌, ◌++◌, None, Result, Ok, Err}
+use Rattle.std.specs.Prelude.{[], ◌∷◌, ◌++◌, None, Result, Ok, Err}
 use Rattle.hx_transcripts_parts.specs.declared.fault.Rule.{Rule}
 use Rattle.hx_transcripts_parts.specs.declared.fault.Rule.TheVariants.{WrongOrder}
 use Rattle.hx_transcripts_parts.specs.declared.keywords.RecordWord.{RecordWord}

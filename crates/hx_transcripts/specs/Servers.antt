@@ -37,13 +37,13 @@ server_line r ws = do
   x ← new_names_at (closed r.done r.current) ws
   rules ← rules_at x.1
   Ok (
-    reading.Servers (
+      reading.Servers (
       record {
         done = closed r.done r.current;
         current = Some (record { back = x.0.0; server = x.0.1; rules = rules; marks = [] });
       }
-    )
-  )
+      )
+      )
 
 -- a mark of the server whose line came last
 abbrev pub mark_line : ServersRead → MarkWord → Rest → Result Reading Rule

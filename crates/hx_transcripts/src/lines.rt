@@ -23,12 +23,7 @@ pub fn begun(alloc: Global) -> Reading
     })
 }
 
-fn said(
-    read: Reading,
-    form: Form,
-    line: &[u8],
-    words: &mut Words<'_>,
-) -> Result<Reading, Refusal>
+fn said(read: Reading, form: Form, line: &[u8], words: &mut Words<'_>) -> Result<Reading, Refusal>
     ensures { Gives (λ r. r) result (means.said read form line.now words.old) }
 {
     match read {

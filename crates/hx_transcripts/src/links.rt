@@ -73,10 +73,7 @@ fn bytes_behind(
 }
 
 // What was taken of the next client.
-fn client_took(
-    clients: &Growing<ClientBytes>,
-    words: &mut Words<'_>,
-) -> Result<HalfClient, Refusal>
+fn client_took(clients: &Growing<ClientBytes>, words: &mut Words<'_>) -> Result<HalfClient, Refusal>
     ensures { Gives (λ h. h) result (means.client_took clients.now words.old) }
 {
     let (worker, session) = words.who()?;
@@ -218,7 +215,11 @@ pub fn conns_said(read: ConnsRead, form: Form, words: &mut Words<'_>) -> Result<
 
 /// Reads a line of this form where clients stand.
 #[tactic(auto, unfolding(crate::specs::Links::clients_said))]
-pub fn clients_said(read: ClientsRead, form: Form, words: &mut Words<'_>) -> Result<Reading, Refusal>
+pub fn clients_said(
+    read: ClientsRead,
+    form: Form,
+    words: &mut Words<'_>,
+) -> Result<Reading, Refusal>
     ensures { Gives (λ r. r) result (means.clients_said read form words.old) }
 {
     match form {

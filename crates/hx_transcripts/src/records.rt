@@ -37,7 +37,11 @@ fn links_line(read: RecordsRead, words: &mut Words<'_>) -> Result<Reading, Refus
 
 /// Reads a line of this form where records stand.
 #[tactic(auto, unfolding(crate::specs::Records::records_said))]
-pub fn records_said(read: RecordsRead, form: Form, words: &mut Words<'_>) -> Result<Reading, Refusal>
+pub fn records_said(
+    read: RecordsRead,
+    form: Form,
+    words: &mut Words<'_>,
+) -> Result<Reading, Refusal>
     ensures { Gives (λ r. r) result (means.records_said read form words.old) }
 {
     match form {

@@ -40,7 +40,10 @@ fn closed(read: ServersRead) -> Result<Growing<ServerPart>, Refusal>
 }
 
 // A name that no server has.
-fn new_names<'a>(words: &mut Words<'a>, servers: &[ServerPart]) -> Result<(&'a [u8], &'a [u8]), Refusal>
+fn new_names<'a>(
+    words: &mut Words<'a>,
+    servers: &[ServerPart],
+) -> Result<(&'a [u8], &'a [u8]), Refusal>
     ensures { Gives (λ x. ((x.0.now, x.1.now), words.new)) result (means.new_names_at servers.now words.old) }
 {
     let (back, server) = words.names()?;
@@ -99,7 +102,11 @@ fn records_line(read: ServersRead, words: &mut Words<'_>) -> Result<Reading, Ref
 
 /// Reads a line of this form where servers stand.
 #[tactic(auto, unfolding(crate::specs::Servers::servers_said))]
-pub fn servers_said(read: ServersRead, form: Form, words: &mut Words<'_>) -> Result<Reading, Refusal>
+pub fn servers_said(
+    read: ServersRead,
+    form: Form,
+    words: &mut Words<'_>,
+) -> Result<Reading, Refusal>
     ensures { Gives (λ r. r) result (means.servers_said read form words.old) }
 {
     match form {
