@@ -1,0 +1,16 @@
+pub mod Told
+pub mod ListLemmas
+pub mod FormLemmas
+pub mod ServerLemmas
+pub mod RecordLemmas
+pub mod LinkLemmas
+pub mod SumLemmas
+pub mod Soundness
+pub mod ReadLines
+pub mod Passing
+pub mod Cleanness
+pub mod WholeServers
+pub mod WholeRecords
+pub mod WholeLinks
+pub mod WholeSums
+pub mod Completeness

@@ -1,0 +1,9 @@
+pub mod Faults
+pub mod Fits
+pub mod Forms
+pub mod Lines
+pub mod Links
+pub mod Meaning
+pub mod Records
+pub mod Servers
+pub mod Sums
