@@ -122,6 +122,13 @@ impl MemoryLink {
         self.plan.line
     }
 
+    /// The server and the id for which a net dialled it. None: no dial gave it, as a client's.
+    pub fn dial(&self) -> Option<(ServerNo, ConnId)>
+        ensures dial { option_map (λ d. (d.0.0, d.1.0)) result ≡ self.now.state.dial }
+    {
+        self.dial
+    }
+
     /// Attaches it to the loop of that thread, or to none.
     pub(crate) fn set_loop(&mut self, on_loop: Option<ThreadNo>)
         ensures { self.new ≡ with_loop (option_map (λ t. t.0) on_loop) self.old }

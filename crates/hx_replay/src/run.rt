@@ -13,6 +13,9 @@ use hx_replay_parts::{MOST_SCRIPT, Replay, replay_text};
 use itoa::Buffer;
 use std::alloc::Global;
 
+/// The rule of a script that is too long.
+const TOO_LONG: u8 = 10;
+
 fn put(out: &mut Vec<u8>, text: &[u8]) -> Result<(), NoMemory>
     ensures { OnOk result (out.new.items ≡ out.old.items ++ text.now) }
 {
@@ -27,12 +30,12 @@ fn put_number(out: &mut Vec<u8>, n: u32) -> Result<(), NoMemory>
     put(out, buffer.format(n).as_bytes())
 }
 
-/// The line of a configuration's first fault.
-fn fault_line(alloc: Global, line: u32, rule: u8) -> Result<Vec<u8>, NoMemory>
-    ensures { IfOk result (λ text. text.items ≡ config_text line rule) }
+/// The line of a first fault behind this word.
+fn fault_line(alloc: Global, word: &[u8], line: u32, rule: u8) -> Result<Vec<u8>, NoMemory>
+    ensures { IfOk result (λ text. text.items ≡ fault_text word.now line rule) }
 {
     let mut out = Vec::new(alloc);
-    put(&mut out, b"config ")?;
+    put(&mut out, word)?;
     put_number(&mut out, line)?;
     put(&mut out, b" ")?;
     put_number(&mut out, u32::from(rule))?;
@@ -43,8 +46,32 @@ fn fault_line(alloc: Global, line: u32, rule: u8) -> Result<Vec<u8>, NoMemory>
 fn config_fault(alloc: Global, line: u32, rule: u8) -> Ending
     ensures { TellsFault line rule result }
 {
-    match fault_line(alloc, line, rule) {
+    match fault_line(alloc, b"config ", line, rule) {
         Ok(text) => Ending::ConfigFault(text),
+        Err(_) => Ending::NoMemory,
+    }
+}
+
+fn script_fault(alloc: Global, line: u32, rule: u8) -> Ending {
+    match fault_line(alloc, b"script ", line, rule) {
+        Ok(text) => Ending::ScriptFault(text),
+        Err(_) => Ending::NoMemory,
+    }
+}
+
+/// The line of a replay that made as many turns as may be.
+fn turns_line(alloc: Global, turns: u64) -> Result<Vec<u8>, NoMemory> {
+    let mut out = Vec::new(alloc);
+    put(&mut out, b"overrun ")?;
+    let mut buffer = Buffer::new();
+    put(&mut out, buffer.format(turns).as_bytes())?;
+    put(&mut out, b"\n")?;
+    Ok(out)
+}
+
+fn overrun(alloc: Global, turns: u64) -> Ending {
+    match turns_line(alloc, turns) {
+        Ok(text) => Ending::Overrun(text),
         Err(_) => Ending::NoMemory,
     }
 }
@@ -56,7 +83,8 @@ fn replay(alloc: Global, bytes: &[u8]) -> Ending
     match replay_text(alloc, bytes) {
         Ok(Replay::Text(text)) => Ending::Done(text),
         Ok(Replay::ConfigFault { line, rule }) => config_fault(alloc, line, rule),
-        Ok(Replay::Unbuilt) => Ending::Unbuilt,
+        Ok(Replay::ScriptFault { line, rule }) => script_fault(alloc, line, rule),
+        Ok(Replay::Overrun { turns }) => overrun(alloc, turns),
         Err(_) => Ending::NoMemory,
     }
 }
@@ -67,7 +95,7 @@ fn replay_source<S: Source>(alloc: Global, source: &mut S) -> Ending
     match read_all(alloc, source, MOST_SCRIPT) {
         Ok(bytes) => {
             if bytes.len() > MOST_SCRIPT {
-                Ending::Unbuilt
+                script_fault(alloc, 1, TOO_LONG)
             } else {
                 replay(alloc, bytes.as_slice())
             }

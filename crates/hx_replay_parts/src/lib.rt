@@ -3,5 +3,6 @@
 
 mod connection;
 mod replay;
+mod told;
 
 pub use replay::{MOST_SCRIPT, Replay, faults_exclude, replay_text};

@@ -16,7 +16,10 @@ use hx_base::NoMemory;
 use hx_exchange::{Exchanged, exchange};
 use hx_form::{Case, Form, Route, read_form};
 use hx_link::MemoryLink;
+use hx_run::{Halt, run_script};
 use hx_script::{Transcript, print_transcript};
+use hx_script_parts::{Script, TextFault, read_script};
+use crate::told::tell_run;
 use hx_telling::{Run, all_marks, all_totals, exchange_is_true, first_seat, open_first, tell};
 use std::alloc::Global;
 
@@ -30,8 +33,10 @@ pub enum Replay {
     Text(Vec<u8>),
     /// The first fault of the script's configuration: its line there, counted from 1, and the number of its rule.
     ConfigFault { line: u32, rule: u8 },
-    /// No form of script that is built.
-    Unbuilt,
+    /// The first fault of the script: its line, counted from 1, and the number of its rule.
+    ScriptFault { line: u32, rule: u8 },
+    /// So many turns were made, as many as may be.
+    Overrun { turns: u64 },
 }
 
 /// What is told of an exchange that passed on the first connection.
@@ -82,8 +87,46 @@ fn replay_case(alloc: Global, case: Case) -> Result<Option<Transcript>, NoMemory
     }
 }
 
-/// What the bytes are replayed to: the transcript of a script of one exchange, the first fault of a script's
-/// configuration, or that they are no form that is built.
+/// The line of a script that says how long its configuration is.
+const CONFIG_LINE: u32 = 2;
+
+/// The rule of a worker that isn't there.
+const BAD_WORKER: u8 = 7;
+
+/// How many turns a replay may make.
+fn most_turns(bytes: &[u8], script: &Script) -> u64 {
+    16 * bytes.len() as u64 + 64 * script.clients.as_slice().len() as u64
+}
+
+/// The replay of a script of one thread.
+fn replay_script(alloc: Global, script: Script, most: u64) -> Result<Replay, NoMemory> {
+    match run_script(alloc, script, most) {
+        Ok(ran) => {
+            let told = tell_run(alloc, ran)?;
+            Ok(Replay::Text(print_transcript(alloc, &told)?))
+        }
+        Err(Halt::Overrun) => Ok(Replay::Overrun { turns: most }),
+        Err(Halt::NoMemory) => Err(NoMemory),
+    }
+}
+
+/// The replay of any script.
+fn replay_any(alloc: Global, bytes: &[u8]) -> Result<Replay, NoMemory> {
+    match read_script(alloc, bytes) {
+        Ok(script) => {
+            if script.config.threads > 1 {
+                return Ok(Replay::ScriptFault { line: CONFIG_LINE, rule: BAD_WORKER });
+            }
+            let most = most_turns(bytes, &script);
+            replay_script(alloc, script, most)
+        }
+        Err(TextFault::At { line, rule }) => Ok(Replay::ScriptFault { line, rule }),
+        Err(TextFault::Config { line, rule }) => Ok(Replay::ConfigFault { line, rule }),
+        Err(TextFault::NoMemory) => Err(NoMemory),
+    }
+}
+
+/// What the bytes are replayed to.
 ///
 /// # Errors
 /// `NoMemory` for want of memory.
@@ -91,11 +134,11 @@ pub fn replay_text(alloc: Global, bytes: &[u8]) -> Result<Replay, NoMemory>
     ensures { IfOk result (IsReplayOf bytes.now) }
 {
     match read_form(alloc, bytes)? {
-        Form::Unbuilt => Ok(Replay::Unbuilt),
         Form::ConfigFault { line, rule } => Ok(Replay::ConfigFault { line, rule }),
+        Form::Unbuilt => replay_any(alloc, bytes),
         Form::OneExchange(case) => match replay_case(alloc, case)? {
             Some(told) => Ok(Replay::Text(print_transcript(alloc, &told)?)),
-            None => Ok(Replay::Unbuilt),
+            None => replay_any(alloc, bytes),
         },
     }
 }

@@ -4,7 +4,9 @@
 mod ran;
 mod running;
 mod seats;
+mod whole;
 
 pub use ran::Ran;
 pub use running::{Halt, Running};
 pub use seats::RunSeat;
+pub use whole::run_script;

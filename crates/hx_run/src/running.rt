@@ -23,6 +23,12 @@ use std::marker::Model;
 /// The one thread.
 const THREAD: ThreadNo = ThreadNo(0);
 
+/// The most marks that a step or a stop makes at a seat.
+const STEP_MARKS: usize = 4;
+
+/// The most marks that an order or a round of the caretaker makes at a seat.
+const CARE_MARKS: usize = 2_049;
+
 /// Why a replay stops before its end.
 #[derive(Clone, Copy, PartialEq, Eq, Debug)]
 pub enum Halt {
@@ -118,6 +124,21 @@ impl<'a> Running<'a> {
         self.turns
     }
 
+    /// Makes room at each server for so many marks more.
+    fn reserve(&mut self, marks: usize) -> Result<(), NoMemory>
+        ensures goes { GoesOn self.old self.new }
+        ensures turns { self.new.turns ≡ self.old.turns }
+        ensures sessions { self.new.worker.sessions ≡ self.old.worker.sessions }
+        ensures records { self.new.records ≡ self.old.records }
+    {
+        let mut at = 0;
+        while at < self.worker.servers() {
+            self.worker.seat_mut(ServerNo(at as u16)).reserve(marks)?;
+            at += 1;
+        }
+        Ok(())
+    }
+
     /// A client comes: its link is attached to the loop, and its session begins. One that can't is buried.
     ///
     /// # Errors
@@ -144,20 +165,30 @@ impl<'a> Running<'a> {
     }
 
     /// Carries out an order.
-    pub fn order(&mut self, what: Order)
+    ///
+    /// # Errors
+    /// `NoMemory`.
+    pub fn order(&mut self, what: Order) -> Result<(), NoMemory>
         requires there { (ordered_server what).0 < length (all_servers self.old.worker.config.backs) }
         ensures goes { GoesOn self.old self.new }
         ensures sessions { self.new.worker.sessions ≡ self.old.worker.sessions }
     {
+        self.reserve(CARE_MARKS)?;
         self.worker.order(&mut self.net, what);
+        Ok(())
     }
 
     /// The caretaker's round.
-    pub fn tick(&mut self, now: Millis)
+    ///
+    /// # Errors
+    /// `NoMemory`.
+    pub fn tick(&mut self, now: Millis) -> Result<(), NoMemory>
         ensures goes { GoesOn self.old self.new }
         ensures sessions { self.new.worker.sessions ≡ self.old.worker.sessions }
     {
+        self.reserve(CARE_MARKS)?;
         self.worker.tick(&mut self.net, now);
+        Ok(())
     }
 
     /// A step of a session, and what it tells.
@@ -168,6 +199,7 @@ impl<'a> Running<'a> {
         ensures stays { IfOk result (λ r. (r.waits ≡ Ended → ⊥) → IsSome (session_of self.new.worker.sessions n.0)) }
         ensures told { IfOk result (λ r. self.new.records ≡ self.old.records ++ told_of r.served r.left) }
     {
+        self.reserve(STEP_MARKS)?;
         let step = self.worker.step(&mut self.net, n, now);
         tell(&mut self.records, step.served, step.left)?;
         Ok(step)
@@ -243,6 +275,7 @@ impl<'a> Running<'a> {
         ensures fewer { result ≡ Ok true → length self.new.worker.sessions < length self.old.worker.sessions }
         ensures none { result ≡ Ok false → self.new.worker.sessions ≡ [] }
     {
+        self.reserve(STEP_MARKS)?;
         match self.worker.stop_next(&mut self.net) {
             Some(stopped) => {
                 tell(&mut self.records, stopped.served, Some(stopped.left))?;
@@ -262,5 +295,38 @@ impl<'a> Running<'a> {
     {
         while self.stop_one()? {}
         Ok(())
+    }
+
+    /// Drains each server, in order.
+    ///
+    /// # Errors
+    /// `NoMemory`.
+    pub fn drain_all(&mut self) -> Result<(), NoMemory>
+        ensures goes { GoesOn self.old self.new }
+        ensures sessions { self.new.worker.sessions ≡ self.old.worker.sessions }
+    {
+        let mut at = 0;
+        while at < self.worker.servers() {
+            self.order(Order::Drain(ServerNo(at as u16)))?;
+            at += 1;
+        }
+        Ok(())
+    }
+
+    /// The records, the seats by server, and the net, once all is over.
+    ///
+    /// # Errors
+    /// `NoMemory` where memory was wanted for a link or for what the net keeps.
+    pub fn end(self) -> Result<(Vec<Told>, Vec<RunSeat>, MemoryNet), NoMemory> {
+        if self.net.starved() {
+            return Err(NoMemory);
+        }
+        let Running {
+            worker,
+            net,
+            records,
+            ..
+        } = self;
+        Ok((records, worker.into_seats(), net))
     }
 }
