@@ -1,0 +1,4 @@
+pub mod Overs
+pub mod Servers
+pub mod Links
+pub mod Telling

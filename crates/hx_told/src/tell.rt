@@ -1,0 +1,107 @@
+//! What a whole replay did, told as a transcript.
+ghost use Rattle.std.specs.Prelude.{◌≡◌, All, IfOk, length};
+ghost use Rattle.hx_config.specs.Limits.{all_servers};
+ghost use Rattle.hx_script.specs.PrintedForm.{ClientBefore, ConnBefore, Rises, IsToldServer};
+ghost use Rattle.hx_script.specs.TrueTranscript.{AreTrueServers};
+ghost use Rattle.hx_told.specs.Overs.{AreOver};
+ghost use Rattle.hx_told.specs.Servers.{named_servers, parts_of, all_sums};
+ghost use Rattle.hx_told.specs.Telling.{TellsLinks};
+
+use crate::form::{are_named, are_told, have_own_names};
+use crate::links::{LinkBytes, all_lefts, tell_links};
+use crate::order::{order_clients, order_conns};
+use crate::servers::{name_servers, tell_servers, tell_totals};
+use hx_base::{Faced, Items, NoMemory, Totals};
+use hx_config::Config;
+use hx_link::MemoryNet;
+use hx_plain::PlainSeat;
+use hx_pool::JournalSeat;
+use hx_record::Told;
+use hx_script::{ServerPart, Transcript};
+use std::alloc::Global;
+
+/// The bytes of the links that the net keeps, in the order of a transcript.
+///
+/// # Errors
+/// `NoMemory` for want of memory, now or before, so that a link doesn't tell its bytes; and where not just as many sessions
+/// ended as there are clients' links, or a session or a connection stands twice.
+fn tell_net(alloc: Global, records: &[Told], net: MemoryNet) -> Result<LinkBytes, NoMemory>
+    ensures links { IfOk result (λ told. TellsLinks records.now net.links told.clients.items told.conns.items) }
+    ensures clients { IfOk result (λ told. Rises ClientBefore told.clients.items) }
+    ensures conns { IfOk result (λ told. Rises ConnBefore told.conns.items) }
+{
+    if net.starved() {
+        return Err(NoMemory);
+    }
+    let lefts = all_lefts(alloc, records)?;
+    let told = tell_links(alloc, lefts.as_slice(), net.into_buried())?;
+    Ok(LinkBytes {
+        clients: order_clients(told.clients)?,
+        conns: order_conns(told.conns)?,
+    })
+}
+
+/// The transcript of these parts.
+///
+/// # Errors
+/// Where two servers have one name, a record or a connection names none of them, or an early cut doesn't close.
+fn put_together(
+    servers: Vec<ServerPart>,
+    records: Items<Told>,
+    links: LinkBytes,
+    totals: Vec<Totals>,
+) -> Result<Transcript, NoMemory>
+    requires told { All IsToldServer servers.items }
+    requires clients { Rises ClientBefore links.clients.items }
+    requires conns { Rises ConnBefore links.conns.items }
+    requires totals { length totals.items ≡ length servers.items }
+    ensures servers { IfOk result (λ t. t.servers ≡ servers.items) }
+    ensures records { IfOk result (λ t. t.records ≡ records) }
+    ensures clients { IfOk result (λ t. t.clients ≡ links.clients.items) }
+    ensures conns { IfOk result (λ t. t.conns ≡ links.conns.items) }
+    ensures totals { IfOk result (λ t. t.totals ≡ totals.items) }
+{
+    let count = servers.len();
+    if !have_own_names(servers.as_slice())
+        || !are_told(count, records.as_slice())
+        || !are_named(count, links.conns.as_slice())
+    {
+        return Err(NoMemory);
+    }
+    Ok(Transcript {
+        servers: Items::from_vec(servers),
+        records,
+        clients: Items::from_vec(links.clients),
+        conns: Items::from_vec(links.conns),
+        totals: Items::from_vec(totals),
+    })
+}
+
+/// The transcript of a replay that is over: the configuration's servers with the marks and the totals of their seats, the
+/// records, and the bytes of all links that were buried. The k-th session that ended is that of the k-th link that was
+/// buried and not dialled.
+///
+/// # Errors
+/// `NoMemory` for want of memory, now or before, so that a mark or a byte isn't kept; and where the parts don't fit
+/// together: not one seat a server or one client's link a session that ended, a session or a connection twice, two servers
+/// of one name, or a mark, a record or a connection that no line tells.
+pub fn tell_run<V: Faced>(
+    alloc: Global,
+    config: &Config,
+    records: Items<Told>,
+    seats: &[JournalSeat<PlainSeat<V>>],
+    net: MemoryNet,
+) -> Result<Transcript, NoMemory>
+    requires over { AreOver (all_servers config.now.backs) seats.now }
+    ensures true_servers { IfOk result (λ t. AreTrueServers t.servers t.totals) }
+    ensures servers { IfOk result (λ t. t.servers ≡ parts_of (named_servers config.now.backs) seats.now) }
+    ensures totals { IfOk result (λ t. t.totals ≡ all_sums seats.now) }
+    ensures records { IfOk result (λ t. t.records ≡ records) }
+    ensures links { IfOk result (λ t. TellsLinks records net.links t.clients t.conns) }
+{
+    let names = name_servers(alloc, config)?;
+    let servers = tell_servers(alloc, names, seats)?;
+    let totals = tell_totals(alloc, seats)?;
+    let links = tell_net(alloc, records.as_slice(), net)?;
+    put_together(servers, records, links, totals)
+}
