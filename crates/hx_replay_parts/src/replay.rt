@@ -11,15 +11,13 @@ ghost use Rattle.hx_exchange.specs.Exchanges.{CarryNone, IsExchanged};
 ghost use Rattle.hx_replay_parts.specs.ReplayParts.{IsFirst, IsOpened, TellsPlans};
 ghost use Rattle.hx_replay_parts.specs.Replays.{IsReplayOf, FaultsExclude};
 
+use crate::any::replay_any;
 use crate::connection::{FirstSeat, close, dial_first, link_of, net_of};
 use hx_base::NoMemory;
 use hx_exchange::{Exchanged, exchange};
 use hx_form::{Case, Form, Route, read_form};
 use hx_link::MemoryLink;
-use hx_run::{Halt, run_script};
 use hx_script::{Transcript, print_transcript};
-use hx_script_parts::{Script, TextFault, read_script};
-use crate::told::tell_run;
 use hx_telling::{Run, all_marks, all_totals, exchange_is_true, first_seat, open_first, tell};
 use std::alloc::Global;
 
@@ -87,46 +85,8 @@ fn replay_case(alloc: Global, case: Case) -> Result<Option<Transcript>, NoMemory
     }
 }
 
-/// The line of a script that says how long its configuration is.
-const CONFIG_LINE: u32 = 2;
-
-/// The rule of a worker that isn't there.
-const BAD_WORKER: u8 = 7;
-
-/// How many turns a replay may make.
-fn most_turns(bytes: &[u8], script: &Script) -> u64 {
-    16 * bytes.len() as u64 + 64 * script.clients.as_slice().len() as u64
-}
-
-/// The replay of a script of one thread.
-fn replay_script(alloc: Global, script: Script, most: u64) -> Result<Replay, NoMemory> {
-    match run_script(alloc, script, most) {
-        Ok(ran) => {
-            let told = tell_run(alloc, ran)?;
-            Ok(Replay::Text(print_transcript(alloc, &told)?))
-        }
-        Err(Halt::Overrun) => Ok(Replay::Overrun { turns: most }),
-        Err(Halt::NoMemory) => Err(NoMemory),
-    }
-}
-
-/// The replay of any script.
-fn replay_any(alloc: Global, bytes: &[u8]) -> Result<Replay, NoMemory> {
-    match read_script(alloc, bytes) {
-        Ok(script) => {
-            if script.config.threads > 1 {
-                return Ok(Replay::ScriptFault { line: CONFIG_LINE, rule: BAD_WORKER });
-            }
-            let most = most_turns(bytes, &script);
-            replay_script(alloc, script, most)
-        }
-        Err(TextFault::At { line, rule }) => Ok(Replay::ScriptFault { line, rule }),
-        Err(TextFault::Config { line, rule }) => Ok(Replay::ConfigFault { line, rule }),
-        Err(TextFault::NoMemory) => Err(NoMemory),
-    }
-}
-
-/// What the bytes are replayed to.
+/// What the bytes are replayed to: the text of a transcript; the first fault of the script or of its configuration; or that as
+/// many turns were made as may be.
 ///
 /// # Errors
 /// `NoMemory` for want of memory.

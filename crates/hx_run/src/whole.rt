@@ -1,64 +1,36 @@
 //! The replay of a whole script, by its moments.
+ghost use Rattle.std.specs.Prelude.{◌≡◌, false, IfOk};
+ghost use Rattle.hx_config.specs.Limits.{all_servers};
+ghost use Rattle.hx_config.specs.Views.{meaning};
+ghost use Rattle.hx_run.specs.Dues.{AreDue};
+ghost use Rattle.hx_run.specs.Overs.{AreOver};
+ghost use Rattle.hx_run.specs.Runs.{GoesOn};
+
+use crate::due::{Due, clients_due, orders_due};
 use crate::ran::Ran;
 use crate::running::{Halt, Running};
-use hx_base::{Items, Millis, NoMemory, Order};
-use hx_script_parts::{ClientLine, Script};
+use hx_base::{Items, Millis, NoMemory};
+use hx_script_parts::Script;
 use std::alloc::Global;
 
-/// What comes at the moments of a script: each list by moment and then in script order, the first one at its end.
-#[derive(Drop)]
-struct Due {
-    clients: Vec<ClientLine>,
-    orders: Vec<(Millis, Order)>,
-}
-
-/// The clients of a script as they come.
-fn clients_due(clients: Items<ClientLine>) -> Result<Vec<ClientLine>, NoMemory> {
-    let mut due = clients.into_vec();
-    due.sort_by_key(|line| line.moment.0)?;
-    due.reverse();
-    Ok(due)
-}
-
-/// The orders of a script as they come.
-fn orders_due(orders: Items<(Millis, Order)>) -> Result<Vec<(Millis, Order)>, NoMemory> {
-    let mut due = orders.into_vec();
-    due.sort_by_key(|order| order.0.0)?;
-    due.reverse();
-    Ok(due)
-}
-
-impl Due {
-    /// The next order of this moment.
-    fn order(&mut self, now: Millis) -> Option<Order> {
-        match self.orders.last() {
-            Some((at, _)) if at.0 == now.0 => match self.orders.pop() {
-                Some((_, order)) => Some(order),
-                None => None,
-            },
-            _ => None,
-        }
-    }
-
-    /// The next client of this moment.
-    fn client(&mut self, now: Millis) -> Option<ClientLine> {
-        match self.clients.last() {
-            Some(line) if line.moment.0 == now.0 => self.clients.pop(),
-            _ => None,
-        }
-    }
-}
-
 /// The orders of a moment are carried out.
-fn run_orders(running: &mut Running<'_>, due: &mut Due, now: Millis) -> Result<(), NoMemory> {
-    while let Some(order) = due.order(now) {
-        running.order(order)?;
+fn run_orders(running: &mut Running<'_>, due: &mut Due, now: Millis) -> Result<(), NoMemory>
+    requires due { AreDue running.old.worker.config due.old }
+    ensures goes { GoesOn running.old running.new }
+    ensures due { AreDue running.old.worker.config due.new }
+{
+    while let Some(what) = due.order(now) {
+        running.order(what)?;
     }
     Ok(())
 }
 
 /// The clients of a moment come.
-fn run_clients(running: &mut Running<'_>, due: &mut Due, now: Millis) -> Result<(), NoMemory> {
+fn run_clients(running: &mut Running<'_>, due: &mut Due, now: Millis) -> Result<(), NoMemory>
+    requires due { AreDue running.old.worker.config due.old }
+    ensures goes { GoesOn running.old running.new }
+    ensures due { AreDue running.old.worker.config due.new }
+{
     while let Some(line) = due.client(now) {
         running.come(line, now)?;
     }
@@ -66,7 +38,11 @@ fn run_clients(running: &mut Running<'_>, due: &mut Due, now: Millis) -> Result<
 }
 
 /// A moment: its orders, its clients, the caretaker's round, and rounds until nothing moves.
-fn run_moment(running: &mut Running<'_>, due: &mut Due, now: Millis) -> Result<(), Halt> {
+fn run_moment(running: &mut Running<'_>, due: &mut Due, now: Millis) -> Result<(), Halt>
+    requires due { AreDue running.old.worker.config due.old }
+    ensures goes { GoesOn running.old running.new }
+    ensures due { AreDue running.old.worker.config due.new }
+{
     run_orders(running, due, now)?;
     run_clients(running, due, now)?;
     running.tick(now)?;
@@ -74,7 +50,10 @@ fn run_moment(running: &mut Running<'_>, due: &mut Due, now: Millis) -> Result<(
 }
 
 /// The moments in order.
-fn run_moments(running: &mut Running<'_>, due: &mut Due, moments: &[Millis]) -> Result<(), Halt> {
+fn run_moments(running: &mut Running<'_>, due: &mut Due, moments: &[Millis]) -> Result<(), Halt>
+    requires due { AreDue running.old.worker.config due.old }
+    ensures goes { GoesOn running.old running.new }
+{
     for now in moments {
         run_moment(running, due, *now)?;
     }
@@ -86,7 +65,11 @@ fn run_moments(running: &mut Running<'_>, due: &mut Due, moments: &[Millis]) -> 
 ///
 /// # Errors
 /// As many turns were made as may be and a session is there that may go on, or for want of memory.
-pub fn run_script(alloc: Global, script: Script, most: u64) -> Result<Ran, Halt> {
+pub fn run_script(alloc: Global, script: Script, most: u64) -> Result<Ran, Halt>
+    ensures config { IfOk result (λ ran. ran.config ≡ script.config) }
+    ensures over { IfOk result (λ ran. AreOver (all_servers script.config.backs) ran.seats) }
+    ensures told { IfOk result (λ ran. ran.net.starved ≡ false) }
+{
     let Script {
         config,
         clients,
@@ -105,11 +88,11 @@ pub fn run_script(alloc: Global, script: Script, most: u64) -> Result<Ran, Halt>
     run_moments(&mut running, &mut due, moments.as_slice())?;
     running.stop_all()?;
     running.drain_all()?;
-    let (records, seats, net) = running.end()?;
+    let over = running.end()?;
     Ok(Ran {
         config,
-        records: Items::from_vec(records),
-        seats: Items::from_vec(seats),
-        net,
+        records: Items::from_vec(over.records),
+        seats: Items::from_vec(over.seats),
+        net: over.net,
     })
 }

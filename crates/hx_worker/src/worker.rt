@@ -250,8 +250,8 @@ impl<'a, S: Seat<Rested<L>>, L: Link> Worker<'a, S, L> {
 
     /// The seats, by server. Sessions that are left are let go with all that they have.
     pub fn into_seats(self) -> Vec<S>
-        ensures seats { map S.history result.items ≡ self.seats }
-        ensures journals { map (room_of S.kept_from S.spare) result.items ≡ self.journals }
+        ensures seats { map S.history result.items ≡ self.entry.seats }
+        ensures journals { map (room_of S.kept_from S.spare) result.items ≡ self.entry.journals }
     {
         let Worker { seats, .. } = self;
         seats
