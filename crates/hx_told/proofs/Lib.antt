@@ -1,0 +1,5 @@
+pub mod Clients
+pub mod Each
+pub mod Names
+pub mod Overs
+pub mod Parts

@@ -1,4 +1,4 @@
-pub mod Overs
-pub mod Servers
 pub mod Links
+pub mod Orders
+pub mod Servers
 pub mod Telling

@@ -1,6 +1,6 @@
 //! The links of a replay: which session or connection each was, and its bytes.
-ghost use Rattle.std.specs.Prelude.{◌≡◌, ◌+◌, ◌≤◌, ◌++◌, length, take, drop, Some, IfOk, OnOk};
-ghost use Rattle.hx_told.specs.Links.{lefts_of, is_client, client_links, client_of, clients_of, conn_of, conns_by, conns_of, AddsClient};
+ghost use Rattle.std.specs.Prelude.{◌≡◌, ◌++◌, All, length, IfOk, OnOk};
+ghost use Rattle.hx_told.specs.Links.{TellsBytes, lefts_of, client_links, client_of, clients_of, conn_of, conns_by, conns_of, AddsClient};
 
 use hx_base::{ConnId, NoMemory, ServerNo};
 use hx_link::MemoryLink;
@@ -16,8 +16,9 @@ pub(crate) fn all_lefts(alloc: Global, records: &[Told]) -> Result<Vec<Left>, No
 {
     let mut lefts = Vec::new(alloc);
     for told in records {
-        if let Told::Left(left) = told {
-            lefts.push(*left)?;
+        match told {
+            Told::Left(left) => lefts.push(*left)?,
+            Told::Served(_) => {}
         }
     }
     Ok(lefts)
@@ -25,6 +26,7 @@ pub(crate) fn all_lefts(alloc: Global, records: &[Told]) -> Result<Vec<Left>, No
 
 fn client_bytes(left: Left, link: MemoryLink) -> Result<ClientBytes, NoMemory>
     ensures client { IfOk result (λ client. client ≡ client_of left link) }
+    ensures bytes { OnOk result (TellsBytes link) }
 {
     let bytes = link.into_bytes()?;
     Ok(ClientBytes {
@@ -37,6 +39,7 @@ fn client_bytes(left: Left, link: MemoryLink) -> Result<ClientBytes, NoMemory>
 
 fn conn_bytes(server: ServerNo, id: ConnId, link: MemoryLink) -> Result<ConnBytes, NoMemory>
     ensures conn { IfOk result (λ conn. conn ≡ conn_of (server.0, id.0) link) }
+    ensures bytes { OnOk result (TellsBytes link) }
 {
     let bytes = link.into_bytes()?;
     Ok(ConnBytes {
@@ -61,6 +64,7 @@ impl LinkBytes {
     /// `NoMemory` for want of memory; and where no more sessions ended.
     fn add(&mut self, lefts: &[Left], link: MemoryLink) -> Result<(), NoMemory>
         ensures clients { OnOk result (AddsClient link.state.dial lefts.now self.old.clients.items link self.new.clients.items) }
+        ensures bytes { OnOk result (TellsBytes link) }
         ensures conns { OnOk result (self.new.conns.items ≡ self.old.conns.items ++ conns_by link.state.dial link) }
     {
         match link.dial() {
@@ -86,6 +90,7 @@ pub(crate) fn tell_links(
     links: Vec<MemoryLink>,
 ) -> Result<LinkBytes, NoMemory>
     ensures clients { IfOk result (λ told. told.clients.items ≡ clients_of lefts.now (client_links links.items)) }
+    ensures bytes { OnOk result (All TellsBytes links.items) }
     ensures each { OnOk result (length (client_links links.items) ≡ length lefts.now) }
     ensures conns { IfOk result (λ told. told.conns.items ≡ conns_of links.items) }
 {

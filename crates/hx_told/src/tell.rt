@@ -1,9 +1,9 @@
 //! What a whole replay did, told as a transcript.
 ghost use Rattle.std.specs.Prelude.{◌≡◌, All, IfOk, length};
 ghost use Rattle.hx_config.specs.Limits.{all_servers};
+ghost use Rattle.hx_run.specs.Overs.{AreOver};
 ghost use Rattle.hx_script.specs.PrintedForm.{ClientBefore, ConnBefore, Rises, IsToldServer};
 ghost use Rattle.hx_script.specs.TrueTranscript.{AreTrueServers};
-ghost use Rattle.hx_told.specs.Overs.{AreOver};
 ghost use Rattle.hx_told.specs.Servers.{named_servers, parts_of, all_sums};
 ghost use Rattle.hx_told.specs.Telling.{TellsLinks};
 
@@ -11,12 +11,10 @@ use crate::form::{are_named, are_told, have_own_names};
 use crate::links::{LinkBytes, all_lefts, tell_links};
 use crate::order::{order_clients, order_conns};
 use crate::servers::{name_servers, tell_servers, tell_totals};
-use hx_base::{Faced, Items, NoMemory, Totals};
-use hx_config::Config;
+use hx_base::{Items, NoMemory, Totals};
 use hx_link::MemoryNet;
-use hx_plain::PlainSeat;
-use hx_pool::JournalSeat;
 use hx_record::Told;
+use hx_run::Ran;
 use hx_script::{ServerPart, Transcript};
 use std::alloc::Global;
 
@@ -26,7 +24,7 @@ use std::alloc::Global;
 /// `NoMemory` for want of memory, now or before, so that a link doesn't tell its bytes; and where not just as many sessions
 /// ended as there are clients' links, or a session or a connection stands twice.
 fn tell_net(alloc: Global, records: &[Told], net: MemoryNet) -> Result<LinkBytes, NoMemory>
-    ensures links { IfOk result (λ told. TellsLinks records.now net.links told.clients.items told.conns.items) }
+    ensures links { IfOk result (λ told. TellsLinks records.now net told.clients.items told.conns.items) }
     ensures clients { IfOk result (λ told. Rises ClientBefore told.clients.items) }
     ensures conns { IfOk result (λ told. Rises ConnBefore told.conns.items) }
 {
@@ -85,23 +83,23 @@ fn put_together(
 /// `NoMemory` for want of memory, now or before, so that a mark or a byte isn't kept; and where the parts don't fit
 /// together: not one seat a server or one client's link a session that ended, a session or a connection twice, two servers
 /// of one name, or a mark, a record or a connection that no line tells.
-pub fn tell_run<V: Faced>(
-    alloc: Global,
-    config: &Config,
-    records: Items<Told>,
-    seats: &[JournalSeat<PlainSeat<V>>],
-    net: MemoryNet,
-) -> Result<Transcript, NoMemory>
-    requires over { AreOver (all_servers config.now.backs) seats.now }
+pub fn tell_run(alloc: Global, ran: Ran) -> Result<Transcript, NoMemory>
+    requires over { AreOver (all_servers ran.config.backs) ran.seats }
     ensures true_servers { IfOk result (λ t. AreTrueServers t.servers t.totals) }
-    ensures servers { IfOk result (λ t. t.servers ≡ parts_of (named_servers config.now.backs) seats.now) }
-    ensures totals { IfOk result (λ t. t.totals ≡ all_sums seats.now) }
-    ensures records { IfOk result (λ t. t.records ≡ records) }
-    ensures links { IfOk result (λ t. TellsLinks records net.links t.clients t.conns) }
+    ensures servers { IfOk result (λ t. t.servers ≡ parts_of (named_servers ran.config.backs) ran.seats) }
+    ensures totals { IfOk result (λ t. t.totals ≡ all_sums ran.seats) }
+    ensures records { IfOk result (λ t. t.records ≡ ran.records) }
+    ensures links { IfOk result (λ t. TellsLinks ran.records ran.net t.clients t.conns) }
 {
-    let names = name_servers(alloc, config)?;
-    let servers = tell_servers(alloc, names, seats)?;
-    let totals = tell_totals(alloc, seats)?;
+    let Ran {
+        config,
+        records,
+        seats,
+        net,
+    } = ran;
+    let names = name_servers(alloc, &config)?;
+    let servers = tell_servers(alloc, names, seats.as_slice())?;
+    let totals = tell_totals(alloc, seats.as_slice())?;
     let links = tell_net(alloc, records.as_slice(), net)?;
     put_together(servers, records, links, totals)
 }
