@@ -8,6 +8,8 @@ use Rattle.hx_form.specs.Messages.{Messages}
 use Rattle.hx_telling.specs.OneExchange.{TellsExchange}
 use Rattle.hx_script.specs.TrueTranscript.{IsTrueTranscript}
 use Rattle.hx_replay_parts.specs.Plays.{Plays, HasScriptFault, Overruns}
+use Rattle.hx_replay_parts.specs.declared.replay.One.{One}
+use Rattle.hx_replay_parts.specs.declared.replay.One.TheVariants as one
 use Rattle.hx_replay_parts.specs.declared.replay.Replay.{Replay}
 use Rattle.hx_replay_parts.specs.declared.replay.Replay.TheVariants as replay
 
@@ -25,6 +27,12 @@ pub record Replays (bytes text : List ℕ) : Type 0 where
   pub tells : TellsExchange route x transcript
   pub is_true : IsTrueTranscript transcript (λ _ _. x.to_end)
   pub spells : Spells text transcript
+
+-- each text is one of three: a script of one exchange that is replayed, one whose configuration has a fault, or neither
+abbrev pub IsOneOf : List ℕ → One → Type 0
+IsOneOf bytes (one.Text text) = Replays bytes text.items
+IsOneOf bytes (one.ConfigFault line rule) = HasConfigFault bytes line rule
+IsOneOf bytes one.Other = IsUnbuiltScript bytes
 
 -- a script of one exchange is replayed as such. Any other text is a script of one thread, whose text tells its servers, or has
 -- a first fault, in its configuration or in a line of its own; or as many turns were made as may be

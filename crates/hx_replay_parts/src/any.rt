@@ -33,7 +33,7 @@ fn replay_script(alloc: Global, script: Script, most: u64) -> Result<Replay, NoM
 {
     match run_script(alloc, script, most) {
         Ok(ran) => {
-            let told = tell_run(alloc, &ran.config, ran.records, ran.seats.as_slice(), ran.net)?;
+            let told = tell_run(alloc, ran)?;
             Ok(Replay::Text(print_transcript(alloc, &told)?))
         }
         Err(Halt::Overrun) => Ok(Replay::Overrun { turns: most }),

@@ -34,7 +34,7 @@ use Rattle.hx_run.specs.Overs.{AllClosed}
 
 -- a connection that rests at a place stands there
 abbrev RestsThere : Table → ℕ → PlaceNo → Type 0
-RestsThere T i q = IsInRow q × ((f : Face) × (f.id.0 ≡ i) × (spot_at T q ≡ Holds f))
+RestsThere T i q = IsInRow q × (f : Face) × (f.id.0 ≡ i) × (spot_at T q ≡ Holds f)
 
 -- an opened connection isn't unopened, one that rests stands at its place, and one that is held is held by a thread that is there
 record IsTold (threads : ℕ) (T : Table) : Type 0 where
@@ -256,7 +256,7 @@ NoParks (e ∷ es) = NoPark e × NoParks es
 
 sweeps_park : (t : ThreadNo) (swept : List Swept) → NoParks (sweep_marks t swept)
 sweeps_park t [] = tt
-sweeps_park t (x ∷ swept) = (tt, tt, sweeps_park t swept)
+sweeps_park t (x ∷ swept) = (tt, (tt, sweeps_park t swept))
 
 elsewhere_one : (row : ℕ) (e : Entry) (es : List Entry) → NoParks (cond (is_mark e) (e ∷ es) es) → ParksElsewhere row e × NoParks es
 elsewhere_one row (Open t n id) es p = (tt, p.1)

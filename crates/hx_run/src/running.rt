@@ -12,7 +12,7 @@ ghost use Rattle.hx_pool.specs.Journal.{Journal, journal_from};
 ghost use Rattle.hx_run.specs.Overs.{HasRoom, ClosedBelow};
 ghost use Rattle.hx_run.specs.Rooms.{RoomBelow};
 ghost use Rattle.hx_run.specs.Runs.{GoesOn, IsRun, IsWorking, IsRoomier, CarriedOut, Ticked, told_of};
-ghost use Rattle.hx_run.specs.declared.running.Halt.TheVariants.{Overrun};
+ghost use Rattle.hx_run.specs.declared.running.Halt.TheVariants as halt;
 
 use crate::seats::{RunSeat, seats_of};
 use hx_base::{Millis, NoMemory, Order, ServerNo, SessionNo, ThreadNo};
@@ -43,6 +43,8 @@ pub enum Halt {
 }
 
 impl From<NoMemory> for Halt {
+    ghost from_gives = { λ _ e. e ≡ halt.NoMemory };
+
     fn from(_: NoMemory) -> Halt {
         Halt::NoMemory
     }
@@ -93,6 +95,7 @@ fn room_at(worker: &mut RunWorker<'_>, at: ServerNo, marks: usize) -> Result<(),
 }
 
 /// Makes room at each server for so many marks more.
+#[tactic(auto, using(crate::proofs::Working::room_none, crate::proofs::Working::room_all, crate::proofs::Working::seats_few))]
 fn make_room(worker: &mut RunWorker<'_>, marks: usize) -> Result<(), NoMemory>
     requires working { IsWorking worker.old }
     ensures working { IsWorking worker.new }
@@ -202,6 +205,7 @@ impl<'a> Running<'a> {
         ensures goes { GoesOn self.old self.new }
         ensures sessions { self.new.worker.sessions ≡ self.old.worker.sessions }
         ensures carries { OnOk result (CarriedOut what self.old.worker.seats self.new.worker.seats) }
+        ensures run { IsRun self.old × IsRun self.new }
     {
         make_room(&mut self.worker, CARE_MARKS)?;
         self.worker.order(&mut self.net, what);
@@ -245,7 +249,7 @@ impl<'a> Running<'a> {
         ensures goes { GoesOn self.old self.new }
         ensures moved { result ≡ Ok true → self.old.turns < self.new.turns }
         ensures within { self.new.turns ≤ self.new.most }
-        ensures overrun { result ≡ Err Overrun → self.new.turns ≡ self.new.most }
+        ensures overrun { result ≡ Err halt.Overrun → self.new.turns ≡ self.new.most }
         ensures there { result ≡ Ok true → IsSome (session_of self.new.worker.sessions n.0) }
     {
         if self.turns >= self.most {
@@ -266,7 +270,7 @@ impl<'a> Running<'a> {
         requires there { IsSome (session_of self.old.worker.sessions n.0) }
         ensures goes { GoesOn self.old self.new }
         ensures within { self.new.turns ≤ self.new.most }
-        ensures overrun { result ≡ Err Overrun → self.new.turns ≡ self.new.most }
+        ensures overrun { result ≡ Err halt.Overrun → self.new.turns ≡ self.new.most }
     {
         while self.turn(n, now)? {}
         Ok(())
@@ -281,7 +285,7 @@ impl<'a> Running<'a> {
         ensures goes { GoesOn self.old self.new }
         ensures moved { result ≡ Ok true → self.old.turns < self.new.turns }
         ensures within { self.new.turns ≤ self.new.most }
-        ensures overrun { result ≡ Err Overrun → self.new.turns ≡ self.new.most }
+        ensures overrun { result ≡ Err halt.Overrun → self.new.turns ≡ self.new.most }
     {
         let before = self.turns;
         let mut after = SessionNo(0);
@@ -298,7 +302,7 @@ impl<'a> Running<'a> {
     /// As many turns were made as may be, or for want of memory.
     pub fn rounds(&mut self, now: Millis) -> Result<(), Halt>
         ensures goes { GoesOn self.old self.new }
-        ensures overrun { result ≡ Err Overrun → self.new.turns ≡ self.new.most }
+        ensures overrun { result ≡ Err halt.Overrun → self.new.turns ≡ self.new.most }
     {
         while self.round(now)? {}
         Ok(())
@@ -344,6 +348,16 @@ impl<'a> Running<'a> {
         self.order(Order::Drain(server))
     }
 
+    /// How many servers there are.
+    #[tactic(auto, using(crate::proofs::Working::seats_few, crate::proofs::Working::seats_all))]
+    fn servers(&self) -> usize
+        ensures seats { result ≡ length self.now.worker.seats }
+        ensures all { result ≡ length (all_servers self.now.worker.config.backs) }
+        ensures few { result ≤ 32 }
+    {
+        self.worker.servers()
+    }
+
     /// Drains each server, in order.
     ///
     /// # Errors
@@ -355,7 +369,7 @@ impl<'a> Running<'a> {
         ensures closed { OnOk result (ClosedBelow (length self.new.worker.seats) self.new.worker.seats) }
     {
         let mut at = 0;
-        while at < self.worker.servers() {
+        while at < self.servers() {
             self.drain(ServerNo(at as u16))?;
             at += 1;
         }

@@ -1,0 +1,5 @@
+use Rattle.hx_run.proofs.Working.{ordered_run}
+use Rattle.hx_run.proofs.running.Running.order.Goals as goal
+
+pub invariant_of-self-2 : goal.invariant_of-self-2
+invariant_of-self-2 c = ordered_run _ _ _ _ _ _ c.self.invariant c.make_room.ensures.working c.in_ok-make_room.ensures.room c.order.ensures.orders c.order.ensures.seats
