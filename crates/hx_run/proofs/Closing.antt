@@ -174,8 +174,8 @@ in_without i id (f ∷ fs) ne h =
     let go : (b : Bool) → (f.id.0 == id.0) ≡ b → IsIn i (f ∷ fs) → IsIn i (cond b (without id fs) (f ∷ without id fs)) =
     λ b. elim b as (λ b. (f.id.0 == id.0) ≡ b → IsIn i (f ∷ fs) → IsIn i (cond b (without id fs) (f ∷ without id fs))) [
       | true ↦ λ e q. ⊎_elim
-      (λ (is : f.id.0 ≡ i). absurd (ne (sym is ∙ eqb-true f.id.0 id.0 e)))
-      (λ r. in_without i id fs ne r) q
+          (λ (is : f.id.0 ≡ i). absurd (ne (sym is ∙ eqb-true f.id.0 id.0 e)))
+          (λ r. in_without i id fs ne r) q
       | false ↦ λ e q. ⊎_elim (λ (is : f.id.0 ≡ i). inl is) (λ r. inr (in_without i id fs ne r)) q
     ] in go (f.id.0 == id.0) refl h
 

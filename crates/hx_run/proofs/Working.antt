@@ -5,7 +5,7 @@ use Rattle.hx_base.specs.declared.numbers.Millis.{Millis}
 use Rattle.hx_base.specs.declared.numbers.SessionNo.{SessionNo}
 use Rattle.hx_base.specs.declared.numbers.ServerNo.{ServerNo}
 use Rattle.hx_base.specs.declared.order.Order.{Order}
-use Rattle.hx_base.specs.declared.order.Order.TheVariants.{Drain}
+use Rattle.hx_base.specs.declared.order.Order.TheVariants.{Drain, Ready}
 use Rattle.hx_config.specs.declared.parts.Server.{Server}
 use Rattle.hx_config.specs.Limits.{IsWithin, all_servers, are_numbered}
 use Rattle.std.specs.List.{list_any, list_all}
@@ -37,7 +37,7 @@ use Rattle.hx_worker.specs.Lends.{with_seat}
 use Rattle.hx_run.specs.Begins.{start}
 use Rattle.hx_run.specs.Overs.{IsAlone, AreAlone, IsKept, HasRoom, AllClosed, ClosedBelow, AreOver}
 use Rattle.hx_run.specs.Rooms.{RoomBelow}
-use Rattle.hx_run.specs.Dues.{AreDue}
+use Rattle.hx_run.specs.Dues.{AreDue, IsThere}
 use Rattle.hx_run.specs.declared.due.Due.{Due}
 use Rattle.hx_run.specs.Runs.{RunNow, run_now, GoesOn, IsRun, IsWorking, IsRoomier, CarriedOut}
 use Rattle.hx_script_parts.specs.Limits.{is_server_of, is_client_of, is_order_of, is_plan_of, is_positive, has_limits, dials}
@@ -243,8 +243,12 @@ listed_below k (s ∷ ss) n a l =
       | false ↦ λ e q. let r = listed_below (k + 1) ss n (and_parts (s.no.0 == k) (are_numbered (k + 1) ss) a).1 q in omega (arith, r)
     ] in go (s.no.0 == n.0) refl l
 
-pub order_there : (w : WorkerNow) (n : ServerNo) → IsWorking w → is_server_of w.config n ≡ true → n.0 < length (all_servers w.config.backs)
-order_there w n k l = let r = listed_below 0 (all_servers w.config.backs) n k.config.numbered l in omega (arith, r)
+order_there : (c : Meaning) (n : ServerNo) → are_numbered 0 (all_servers c.backs) ≡ true → is_server_of c n ≡ true → n.0 < length (all_servers c.backs)
+order_there c n k l = let r = listed_below 0 (all_servers c.backs) n k l in omega (arith, r)
+
+is_there : (c : Meaning) → are_numbered 0 (all_servers c.backs) ≡ true → (x : Millis × Order) → is_order_of c x ≡ true → IsThere c x.1
+is_there c k (at, Drain server) l = order_there c server k l
+is_there c k (at, Ready server) l = order_there c server k l
 
 -- ---- a replay behind a call of its worker
 
@@ -304,11 +308,12 @@ plan_of c p e =
 pub all_plans : (c : Meaning) (ps : List Plan) → list_all (is_plan_of c) ps ≡ true → All IsPlan ps
 all_plans c ps e = All-weaker (λ p. is_plan_of c p ≡ true) IsPlan (plan_of c) ps (AllPass-from_list_all (is_plan_of c) ps e)
 
-pub all_due : (c : Meaning) (clients : List ClientLine) (orders : List (Millis × Order)) (d : Due) → list_all (is_client_of c) clients ≡ true → list_all (is_order_of c) orders ≡ true
+pub all_due : (c : Meaning) → IsWithin c.threads c.fronts c.backs → (clients : List ClientLine) (orders : List (Millis × Order)) (d : Due) → list_all (is_client_of c) clients ≡ true → list_all (is_order_of c) orders ≡ true
     → IsPermutation clients d.clients.items → IsPermutation orders d.orders.items → AreDue c d
-all_due c clients orders d a b p q = record {
+all_due c within clients orders d a b p q = record {
   clients = All-permutation (λ x. is_client_of c x ≡ true) clients d.clients.items p (AllPass-from_list_all (is_client_of c) clients a);
-  orders = All-permutation (λ x. is_order_of c x ≡ true) orders d.orders.items q (AllPass-from_list_all (is_order_of c) orders b);
+  orders = All-permutation (λ x. IsThere c x.1) orders d.orders.items q
+      (All-weaker (λ x. is_order_of c x ≡ true) (λ x. IsThere c x.1) (is_there c within.numbered) orders (AllPass-from_list_all (is_order_of c) orders b));
 }
 
 -- ---- the end

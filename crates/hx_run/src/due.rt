@@ -2,8 +2,8 @@
 ghost use Rattle.std.specs.Prelude.{◌≡◌, ◌<◌, true, All, IfOk, IfSome, IsSome, length};
 ghost use Rattle.std.specs.List.Sorted.{IsPermutation};
 ghost use Rattle.hx_config.specs.Meaning.{Meaning};
-ghost use Rattle.hx_script_parts.specs.Limits.{is_client_of, is_server_of, server_of};
-ghost use Rattle.hx_run.specs.Dues.{AreDue};
+ghost use Rattle.hx_script_parts.specs.Limits.{is_client_of};
+ghost use Rattle.hx_run.specs.Dues.{AreDue, IsThere};
 
 use hx_base::{Items, Millis, NoMemory, Order};
 use hx_script_parts::ClientLine;
@@ -40,7 +40,7 @@ impl Due {
     /// The next order of this moment.
     pub(crate) fn order(&mut self, now: Millis) -> Option<Order>
         ensures due { (c : Meaning) → AreDue c self.old → AreDue c self.new }
-        ensures order { (c : Meaning) → AreDue c self.old → IfSome result (λ what. is_server_of c (server_of what) ≡ true) }
+        ensures order { (c : Meaning) → AreDue c self.old → IfSome result (IsThere c) }
         ensures fewer { IsSome result → length self.new.orders.items < length self.old.orders.items }
     {
         match self.orders.last() {
