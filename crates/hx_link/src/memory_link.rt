@@ -1,6 +1,7 @@
 //! A link in memory, which follows a plan.
 ghost use Rattle.std.specs.Prelude.{◌≡◌, ◌≤◌, ◌<◌, length, Some, IfSome, IfOk, option_map};
 ghost use Rattle.hx_link.specs.Planned.{fails_at, room_in};
+ghost use Rattle.hx_link.specs.Told.{IsCounted};
 ghost use Rattle.hx_link.specs.MemoryLinks.{new_link, begun_link, with_loop, finished_link, KeepsPlan};
 ghost use Rattle.hx_link.specs.MemoryNets.{dialled_link, IsPlan};
 ghost use Rattle.hx_link.specs.MemoryCauses.{MemoryReads, MemoryWrites};
@@ -152,6 +153,7 @@ impl MemoryLink {
         ensures sent { IfOk result (λ bytes. Some bytes.sent ≡ self.state.sent) }
         ensures taken { IfOk result (λ bytes. Some bytes.taken ≡ self.state.taken) }
         ensures ended { IfOk result (λ bytes. bytes.ended ≡ self.state.told_end) }
+        ensures counted { IsCounted self.state }
         ensures plan { KeepsPlan self }
     {
         let taken = join_pieces(self.plan.pieces, self.at.taken)?;
@@ -165,7 +167,6 @@ impl MemoryLink {
 }
 
 impl Link for MemoryLink {
-    ghost use Rattle.hx_link.specs.Told.{IsCounted};
     ghost use Rattle.hx_link.specs.Sources.{GotFits, PutFits, KeepsEnd};
     ghost use Rattle.hx_link.specs.Links.{LinkReads, LinkWrites, ReadKeepsLimit, WriteKeepsLimit};
 

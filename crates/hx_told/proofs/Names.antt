@@ -1,5 +1,5 @@
 -- The names of a configuration are names.
-use Rattle.std.proofs.Common.{◌≡◌, ℕ, ◌<◌, Bool, true, List, [], ◌∷◌, ◌++◌, map, length, All, arith}
+use Rattle.std.proofs.Common.{◌≡◌, ℕ, ◌<◌, true, List, [], ◌∷◌, map, length, All, arith}
 use Rattle.std.specs.Prelude.{◌==◌, not}
 use Rattle.std.specs.List.{list_all}
 use Rattle.std.proofs.lemmas.Bool.{and_parts}
@@ -8,7 +8,6 @@ use Rattle.hx_base.specs.Names.{is_name_byte, is_name, IsName}
 use Rattle.hx_config.specs.declared.parts.Back.{Back}
 use Rattle.hx_config.specs.declared.parts.Server.{Server}
 use Rattle.hx_config.specs.Limits.{are_servers_named, has_names}
-use Rattle.hx_told.specs.declared.servers.Named.{Named}
 use Rattle.hx_told.specs.Servers.{named_of, named_servers, HasNames}
 
 filled : (w : List ℕ) → not (length w == 0) ≡ true → 0 < length w

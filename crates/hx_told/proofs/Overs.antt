@@ -1,19 +1,17 @@
 -- The servers of a run that is over are true.
-use Rattle.std.proofs.Common.{◌≡◌, ℕ, ◌-◌, Bool, true, false, cond, List, [], ◌∷◌, ◌++◌, map, length, drop, All, refl, sym, ap, ◌∙◌, subst, arith, eq-eqb, Option, Some, None}
-use Rattle.std.specs.List.{AllZip, flat_map}
-use Rattle.std.proofs.lemmas.List.{map-append}
+use Rattle.std.proofs.Common.{◌≡◌, ◌-◌, Bool, true, false, cond, List, [], ◌∷◌, ◌++◌, map, length, drop, All, refl, sym, ap, ◌∙◌, subst, arith, eq-eqb, Some, None}
+use Rattle.std.specs.List.{AllZip}
 use Rattle.std.proofs.lemmas.List.Elements.{All-head, All-tail}
 use Rattle.hx_base.specs.declared.numbers.ThreadNo.{ThreadNo}
 use Rattle.hx_base.specs.declared.rules.PoolRules.{PoolRules}
 use Rattle.hx_config.specs.declared.parts.Back.{Back}
 use Rattle.hx_config.specs.declared.parts.Server.{Server}
 use Rattle.hx_config.specs.Limits.{all_servers}
-use Rattle.hx_pool.specs.declared.entries.Entry.{Entry}
 use Rattle.hx_pool.specs.declared.entries.Note.{Note}
 use Rattle.hx_pool.specs.History.{thread_of, is_by, own_of, marks_of, entries_of}
 use Rattle.hx_pool.specs.Journal.{Journal, journal_from}
 use Rattle.hx_pool.specs.Rules.{KeepsMode, KeepsLimit}
-use Rattle.hx_pool.specs.SeatView.{About, History, AllBelow}
+use Rattle.hx_pool.specs.SeatView.{About, AllBelow}
 use Rattle.hx_pool.specs.Totals.{totals_of}
 use Rattle.hx_run.specs.Overs.{IsOver, AreOver}
 use Rattle.hx_script.specs.TrueTranscript.{IsTrueServer, AreTrueServers}

@@ -1,4 +1,5 @@
 pub mod Links
 pub mod Orders
+pub mod Places
 pub mod Servers
 pub mod Telling

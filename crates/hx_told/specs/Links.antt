@@ -2,6 +2,7 @@
 use Rattle.std.specs.Prelude.{◌≡◌, ℕ, Bool, true, false, List, [], ◌∷◌, ◌++◌, length, Option, Some, None, slice_get}
 use Rattle.std.specs.List.{flat_map, filter, filter_map}
 use Rattle.hx_link.specs.MemoryLinks.{MemoryLinkNow, KeepsPlan}
+use Rattle.hx_link.specs.Told.{IsCounted}
 use Rattle.hx_record.specs.declared.bytes.ClientBytes.{ClientBytes}
 use Rattle.hx_record.specs.declared.bytes.ConnBytes.{ConnBytes}
 use Rattle.hx_record.specs.declared.served.Left.{Left}
@@ -35,10 +36,11 @@ abbrev pub bytes_told : Option (List ℕ) → List ℕ
 bytes_told None = []
 bytes_told (Some bytes) = bytes
 
--- the link tells its bytes, and what was taken of it are the first bytes of its plan
+-- the link tells its bytes, as many as it counts, and what was taken of it are the first bytes of its plan
 pub record TellsBytes (m : MemoryLinkNow) : Type 0 where
   pub taken : m.state.taken ≡ Some (bytes_told m.state.taken)
   pub sent : m.state.sent ≡ Some (bytes_told m.state.sent)
+  pub counted : IsCounted m.state
   pub keeps : KeepsPlan m
 
 -- the client whose session ended so, with the bytes of its link

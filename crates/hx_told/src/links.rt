@@ -1,6 +1,7 @@
 //! The links of a replay: which session or connection each was, and its bytes.
 ghost use Rattle.std.specs.Prelude.{◌≡◌, ◌++◌, All, length, IfOk, OnOk};
-ghost use Rattle.hx_told.specs.Links.{TellsBytes, lefts_of, client_links, client_of, clients_of, conn_of, conns_by, conns_of, AddsClient};
+ghost use Rattle.hx_told.specs.Links.{TellsBytes, lefts_of, client_links, client_of, clients_of, AddsClient};
+ghost use Rattle.hx_told.specs.Links.{conn_of, conns_by, conns_of};
 
 use hx_base::{ConnId, NoMemory, ServerNo};
 use hx_link::MemoryLink;
@@ -63,9 +64,11 @@ impl LinkBytes {
     /// # Errors
     /// `NoMemory` for want of memory; and where no more sessions ended.
     fn add(&mut self, lefts: &[Left], link: MemoryLink) -> Result<(), NoMemory>
-        ensures clients { OnOk result (AddsClient link.state.dial lefts.now self.old.clients.items link self.new.clients.items) }
+        ensures clients { OnOk result (AddsClient link.state.dial lefts.now
+            self.old.clients.items link self.new.clients.items) }
         ensures bytes { OnOk result (TellsBytes link) }
-        ensures conns { OnOk result (self.new.conns.items ≡ self.old.conns.items ++ conns_by link.state.dial link) }
+        ensures conns { OnOk result (self.new.conns.items
+            ≡ self.old.conns.items ++ conns_by link.state.dial link) }
     {
         match link.dial() {
             Some((server, id)) => self.conns.push(conn_bytes(server, id, link)?)?,
@@ -89,7 +92,8 @@ pub(crate) fn tell_links(
     lefts: &[Left],
     links: Vec<MemoryLink>,
 ) -> Result<LinkBytes, NoMemory>
-    ensures clients { IfOk result (λ told. told.clients.items ≡ clients_of lefts.now (client_links links.items)) }
+    ensures clients { IfOk result (λ told. told.clients.items
+        ≡ clients_of lefts.now (client_links links.items)) }
     ensures bytes { OnOk result (All TellsBytes links.items) }
     ensures each { OnOk result (length (client_links links.items) ≡ length lefts.now) }
     ensures conns { IfOk result (λ told. told.conns.items ≡ conns_of links.items) }

@@ -1,9 +1,8 @@
 //! The servers of a replay: their names and rules, their marks and their totals.
 ghost use Rattle.std.specs.Prelude.{◌≡◌, ◌++◌, true, map, All, IfOk, OnOk, length};
-ghost use Rattle.hx_base.specs.Names.{IsName};
-ghost use Rattle.hx_config.specs.Limits.{has_names};
 ghost use Rattle.hx_script.specs.PrintedForm.{IsToldMark, IsToldServer};
-ghost use Rattle.hx_told.specs.Servers.{named_of, named_servers, HasNames, part_of, parts_of, IsWhole, all_sums};
+ghost use Rattle.hx_told.specs.Servers.{named_of, named_servers, HasNames};
+ghost use Rattle.hx_told.specs.Servers.{part_of, parts_of, IsWhole, all_sums};
 
 use hx_base::{Faced, Items, Name, NoMemory, PoolRules, Totals};
 use hx_config::{Back, Config, Server};

@@ -24,7 +24,8 @@ use std::alloc::Global;
 /// `NoMemory` for want of memory, now or before, so that a link doesn't tell its bytes; and where not just as many sessions
 /// ended as there are clients' links, or a session or a connection stands twice.
 fn tell_net(alloc: Global, records: &[Told], net: MemoryNet) -> Result<LinkBytes, NoMemory>
-    ensures links { IfOk result (λ told. TellsLinks records.now net told.clients.items told.conns.items) }
+    ensures links { IfOk result (λ told. TellsLinks records.now net
+        told.clients.items told.conns.items) }
     ensures clients { IfOk result (λ told. Rises ClientBefore told.clients.items) }
     ensures conns { IfOk result (λ told. Rises ConnBefore told.conns.items) }
 {
@@ -86,7 +87,8 @@ fn put_together(
 pub fn tell_run(alloc: Global, ran: Ran) -> Result<Transcript, NoMemory>
     requires over { AreOver (all_servers ran.config.backs) ran.seats }
     ensures true_servers { IfOk result (λ t. AreTrueServers t.servers t.totals) }
-    ensures servers { IfOk result (λ t. t.servers ≡ parts_of (named_servers ran.config.backs) ran.seats) }
+    ensures servers { IfOk result (λ t. t.servers
+        ≡ parts_of (named_servers ran.config.backs) ran.seats) }
     ensures totals { IfOk result (λ t. t.totals ≡ all_sums ran.seats) }
     ensures records { IfOk result (λ t. t.records ≡ ran.records) }
     ensures links { IfOk result (λ t. TellsLinks ran.records ran.net t.clients t.conns) }

@@ -1,8 +1,8 @@
-use Rattle.std.proofs.Common.{◌≡◌, ◌++◌, List, [], All, length, ap, sym, ◌∙◌, subst, arith}
+use Rattle.std.proofs.Common.{◌≡◌, ◌++◌, List, [], All, ap, sym, ◌∙◌, subst, arith}
 use Rattle.std.proofs.lemmas.Grind.{common_steps}
 use Rattle.std.proofs.lemmas.List.Elements.{All-nil, All-cons}
 use Rattle.hx_link.specs.MemoryLinks.{MemoryLinkNow}
-use Rattle.hx_told.specs.Links.{TellsBytes, client_links, conns_of}
+use Rattle.hx_told.specs.Links.{TellsBytes, conns_of}
 use Rattle.hx_told.proofs.Clients.{HasClients, clients_more, clients_all, conns_more}
 use Rattle.hx_told.proofs.links.tell_links.Goals as goal
 

@@ -1,4 +1,4 @@
-use Rattle.std.proofs.Common.{◌≡◌, All, List, length, ap, subst, sym, ◌∙◌, arith}
+use Rattle.std.proofs.Common.{All, List, length, ap, subst, sym, ◌∙◌, arith}
 use Rattle.std.proofs.lemmas.List.{take_all}
 use Rattle.hx_config.specs.declared.parts.Back.{Back}
 use Rattle.hx_told.specs.Servers.{HasNames, named_servers}
