@@ -4,6 +4,7 @@ use Rattle.hx_base.specs.Counts.{Rose}
 use Rattle.hx_link.specs.Told.{SourceState, SinkState}
 use Rattle.hx_link.specs.Whole.{ReadsFront, WritesAll, WritesPart}
 use Rattle.hx_form.specs.Forms.{HasConfigFault, IsUnbuiltScript}
+use Rattle.hx_replay_parts.specs.Plays.{Plays, HasScriptFault, Overruns}
 use Rattle.hx_replay_parts.specs.Replays.{most_script, Replays}
 use Rattle.hx_replay.specs.Commands.{Means, NoCommand}
 use Rattle.hx_replay.specs.declared.command.Command.TheVariants.{Replay, Check, Drill}
@@ -18,9 +19,25 @@ usage_text = codes "usage: hx_replay replay | check | drill <start> <threads> <s
 abbrev pub unbuilt_text : List ℕ
 unbuilt_text = codes "unbuilt\n"
 
--- the line of a configuration's first fault: its line, counted from 1, and the number of its rule
+-- a line of a first fault, behind this word: its line, counted from 1, and the number of its rule
+abbrev pub fault_text : List ℕ → ℕ → ℕ → List ℕ
+fault_text word line rule = word ++ decimal line ++ codes " " ++ decimal rule ++ codes "\n"
+
+-- the line of a configuration's first fault
 abbrev pub config_text : ℕ → ℕ → List ℕ
-config_text line rule = codes "config " ++ decimal line ++ codes " " ++ decimal rule ++ codes "\n"
+config_text line rule = fault_text (codes "config ") line rule
+
+-- the line of a script's first fault
+abbrev pub script_text : ℕ → ℕ → List ℕ
+script_text line rule = fault_text (codes "script ") line rule
+
+-- the line of a replay that made so many turns, as many as may be
+abbrev pub overrun_text : ℕ → List ℕ
+overrun_text turns = codes "overrun " ++ decimal turns ++ codes "\n"
+
+-- a script of one exchange is replayed as such; any other one is a script of one thread, whose text tells its servers
+abbrev pub IsReplayText : List ℕ → List ℕ → Type 0
+IsReplayText bytes text = Replays bytes text ⊎ (IsUnbuiltScript bytes × Plays bytes text)
 
 -- the source was read to its end without a fault, what it gave is a script, and its replay prints the text
 pub record Replayed (words : List (List ℕ)) (old new : SourceState) (text : List ℕ) : Type 0 where
@@ -30,7 +47,7 @@ pub record Replayed (words : List (List ℕ)) (old new : SourceState) (text : Li
   pub bytes : List ℕ
   pub read : IfSome old.left (λ left. bytes ≡ left)
   pub short : length bytes ≤ most_script
-  pub replays : Replays bytes text
+  pub replays : IsReplayText bytes text
 
 -- the source was read to its end without a fault, and what it gave is a script whose configuration has this first fault
 pub record HasFault (words : List (List ℕ)) (old new : SourceState) (line rule : ℕ) : Type 0 where
@@ -48,11 +65,25 @@ pub record IsReadOut (old new : SourceState) : Type 0 where
   pub front : ReadsFront old new bytes
   pub out : (new.told_end ≡ true) ⊎ (most_script < length bytes)
 
--- what isn't built yet: the other commands, for which nothing is read, and texts that are neither of these scripts
+-- the source was read to its end without a fault, or past the most bytes of a script; and what it gives, where that is told,
+-- has this first fault of a script
+pub record BreaksRule (words : List (List ℕ)) (old new : SourceState) (line rule : ℕ) : Type 0 where
+  pub command : Means words Replay
+  pub out : IsReadOut old new
+  pub fault : IfSome old.left (λ text. HasScriptFault text line rule)
+
+-- the source was read to its end without a fault, and as many turns were made as the replay of what it gave may make
+pub record MadeAllTurns (words : List (List ℕ)) (old new : SourceState) (turns : ℕ) : Type 0 where
+  pub command : Means words Replay
+  pub ended : new.told_end ≡ true
+  pub same : new.faults ≡ old.faults
+  pub bytes : List ℕ
+  pub read : IfSome old.left (λ left. bytes ≡ left)
+  pub overruns : IsUnbuiltScript bytes × Overruns bytes turns
+
+-- what isn't built yet: the other commands, for which nothing is read
 abbrev pub IsUnbuilt : List (List ℕ) → SourceState → SourceState → Type 0
-IsUnbuilt words old new =
-    Means words Check × (new ≡ old) ⊎ Means words Drill × (new ≡ old)
-    ⊎ (Means words Replay × IsReadOut old new × IfSome old.left IsUnbuiltScript)
+IsUnbuilt words old new = (Means words Check × (new ≡ old)) ⊎ (Means words Drill × (new ≡ old))
 
 -- the cause of each ending; want of memory alone has none
 abbrev pub HasCause : List (List ℕ) → SourceState → SourceState → Ending → Type 0
@@ -62,6 +93,10 @@ HasCause words old new ending.Unbuilt = IsUnbuilt words old new
 HasCause words old new (ending.Done text) = Replayed words old new text.items
 HasCause words old new (ending.ConfigFault text) =
     (line : ℕ) × (rule : ℕ) × HasFault words old new line rule × (text.items ≡ config_text line rule)
+HasCause words old new (ending.ScriptFault text) =
+    (line : ℕ) × (rule : ℕ) × BreaksRule words old new line rule × (text.items ≡ script_text line rule)
+HasCause words old new (ending.Overrun text) =
+    (turns : ℕ) × MadeAllTurns words old new turns × (text.items ≡ overrun_text turns)
 HasCause words old new ending.NoMemory = Unit {0}
 
 -- what is written at an ending
@@ -71,6 +106,8 @@ text_of ending.SourceFault = []
 text_of ending.Unbuilt = unbuilt_text
 text_of (ending.Done text) = text.items
 text_of (ending.ConfigFault text) = text.items
+text_of (ending.ScriptFault text) = text.items
+text_of (ending.Overrun text) = text.items
 text_of ending.NoMemory = []
 
 -- the status of an ending
@@ -80,6 +117,8 @@ status_of ending.SourceFault = 2
 status_of ending.Unbuilt = 8
 status_of (ending.Done text) = 0
 status_of (ending.ConfigFault text) = 4
+status_of (ending.ScriptFault text) = 5
+status_of (ending.Overrun text) = 6
 status_of ending.NoMemory = 9
 
 -- a run came to an ending with its cause and wrote its text; or the sink failed, and took a beginning of it
@@ -93,10 +132,14 @@ IsRun words old new sink_old sink_new status =
 abbrev pub IsEndingOf : List ℕ → Ending → Type 0
 IsEndingOf bytes ending.Usage = ⊥
 IsEndingOf bytes ending.SourceFault = ⊥
-IsEndingOf bytes ending.Unbuilt = IsUnbuiltScript bytes
-IsEndingOf bytes (ending.Done text) = Replays bytes text.items
+IsEndingOf bytes ending.Unbuilt = ⊥
+IsEndingOf bytes (ending.Done text) = IsReplayText bytes text.items
 IsEndingOf bytes (ending.ConfigFault text) =
     (line : ℕ) × (rule : ℕ) × HasConfigFault bytes line rule × (text.items ≡ config_text line rule)
+IsEndingOf bytes (ending.ScriptFault text) =
+    (line : ℕ) × (rule : ℕ) × HasScriptFault bytes line rule × (text.items ≡ script_text line rule)
+IsEndingOf bytes (ending.Overrun text) =
+    (turns : ℕ) × (IsUnbuiltScript bytes × Overruns bytes turns) × (text.items ≡ overrun_text turns)
 IsEndingOf bytes ending.NoMemory = Unit {0}
 
 -- the line of this fault, or want of memory
@@ -104,6 +147,18 @@ abbrev pub TellsFault : ℕ → ℕ → Ending → Type 0
 TellsFault line rule (ending.ConfigFault text) = text.items ≡ config_text line rule
 TellsFault line rule ending.NoMemory = Unit {0}
 TellsFault line rule _ = ⊥
+
+-- the line of this fault of a script, or want of memory
+abbrev pub TellsScriptFault : ℕ → ℕ → Ending → Type 0
+TellsScriptFault line rule (ending.ScriptFault text) = text.items ≡ script_text line rule
+TellsScriptFault line rule ending.NoMemory = Unit {0}
+TellsScriptFault line rule _ = ⊥
+
+-- the line of so many turns, or want of memory
+abbrev pub TellsTurns : ℕ → Ending → Type 0
+TellsTurns turns (ending.Overrun text) = text.items ≡ overrun_text turns
+TellsTurns turns ending.NoMemory = Unit {0}
+TellsTurns turns _ = ⊥
 
 -- the replay was done, and its whole text was written
 abbrev pub IsDone : List (List ℕ) → SourceState → SourceState → SinkState → SinkState → Type 0
@@ -114,3 +169,13 @@ IsDone words old new sink_old sink_new =
 abbrev pub IsRefused : List (List ℕ) → SourceState → SourceState → SinkState → SinkState → Type 0
 IsRefused words old new sink_old sink_new =
     (line : ℕ) × (rule : ℕ) × HasFault words old new line rule × WritesAll sink_old sink_new (config_text line rule)
+
+-- the script has a first fault, and the line that says so was written
+abbrev pub IsBroken : List (List ℕ) → SourceState → SourceState → SinkState → SinkState → Type 0
+IsBroken words old new sink_old sink_new =
+    (line : ℕ) × (rule : ℕ) × BreaksRule words old new line rule × WritesAll sink_old sink_new (script_text line rule)
+
+-- as many turns were made as may be, and the line that says so was written
+abbrev pub IsOverrun : List (List ℕ) → SourceState → SourceState → SinkState → SinkState → Type 0
+IsOverrun words old new sink_old sink_new =
+    (turns : ℕ) × MadeAllTurns words old new turns × WritesAll sink_old sink_new (overrun_text turns)

@@ -3,7 +3,7 @@ ghost use Rattle.std.specs.Prelude.{◌≡◌, ◌⊎◌, ◌++◌, ◌∷◌, [
 ghost use Rattle.hx_base.specs.Counts.{Rose};
 ghost use Rattle.hx_link.specs.Whole.{WritesAll};
 ghost use Rattle.hx_replay.specs.Commands.{words_of, NoCommand};
-ghost use Rattle.hx_replay.specs.Endings.{HasCause, IsRun, IsDone, IsRefused, IsUnbuilt, usage_text, unbuilt_text, config_text, IsEndingOf, TellsFault};
+ghost use Rattle.hx_replay.specs.Endings.{HasCause, IsRun, IsDone, IsRefused, IsBroken, IsOverrun, IsUnbuilt, usage_text, unbuilt_text, fault_text, overrun_text, IsEndingOf, TellsFault, TellsScriptFault, TellsTurns};
 
 use crate::command::{Command, command_of};
 use crate::ending::{Ending, status, text};
@@ -13,6 +13,9 @@ use hx_replay_parts::{MOST_SCRIPT, Replay, replay_text};
 use itoa::Buffer;
 use std::alloc::Global;
 
+/// The rule of a script that is too long.
+const TOO_LONG: u8 = 10;
+
 fn put(out: &mut Vec<u8>, text: &[u8]) -> Result<(), NoMemory>
     ensures { OnOk result (out.new.items ≡ out.old.items ++ text.now) }
 {
@@ -20,22 +23,22 @@ fn put(out: &mut Vec<u8>, text: &[u8]) -> Result<(), NoMemory>
     Ok(())
 }
 
-fn put_number(out: &mut Vec<u8>, n: u32) -> Result<(), NoMemory>
+fn put_number(out: &mut Vec<u8>, n: u64) -> Result<(), NoMemory>
     ensures { OnOk result (out.new.items ≡ out.old.items ++ decimal n) }
 {
     let mut buffer = Buffer::new();
     put(out, buffer.format(n).as_bytes())
 }
 
-/// The line of a configuration's first fault.
-fn fault_line(alloc: Global, line: u32, rule: u8) -> Result<Vec<u8>, NoMemory>
-    ensures { IfOk result (λ text. text.items ≡ config_text line rule) }
+/// The line of a first fault behind this word.
+fn fault_line(alloc: Global, word: &[u8], line: u32, rule: u8) -> Result<Vec<u8>, NoMemory>
+    ensures { IfOk result (λ text. text.items ≡ fault_text word.now line rule) }
 {
     let mut out = Vec::new(alloc);
-    put(&mut out, b"config ")?;
-    put_number(&mut out, line)?;
+    put(&mut out, word)?;
+    put_number(&mut out, u64::from(line))?;
     put(&mut out, b" ")?;
-    put_number(&mut out, u32::from(rule))?;
+    put_number(&mut out, u64::from(rule))?;
     put(&mut out, b"\n")?;
     Ok(out)
 }
@@ -43,8 +46,37 @@ fn fault_line(alloc: Global, line: u32, rule: u8) -> Result<Vec<u8>, NoMemory>
 fn config_fault(alloc: Global, line: u32, rule: u8) -> Ending
     ensures { TellsFault line rule result }
 {
-    match fault_line(alloc, line, rule) {
+    match fault_line(alloc, b"config ", line, rule) {
         Ok(text) => Ending::ConfigFault(text),
+        Err(_) => Ending::NoMemory,
+    }
+}
+
+fn script_fault(alloc: Global, line: u32, rule: u8) -> Ending
+    ensures { TellsScriptFault line rule result }
+{
+    match fault_line(alloc, b"script ", line, rule) {
+        Ok(text) => Ending::ScriptFault(text),
+        Err(_) => Ending::NoMemory,
+    }
+}
+
+/// The line of a replay that made as many turns as may be.
+fn turns_line(alloc: Global, turns: u64) -> Result<Vec<u8>, NoMemory>
+    ensures { IfOk result (λ text. text.items ≡ overrun_text turns) }
+{
+    let mut out = Vec::new(alloc);
+    put(&mut out, b"overrun ")?;
+    put_number(&mut out, turns)?;
+    put(&mut out, b"\n")?;
+    Ok(out)
+}
+
+fn overrun(alloc: Global, turns: u64) -> Ending
+    ensures { TellsTurns turns result }
+{
+    match turns_line(alloc, turns) {
+        Ok(text) => Ending::Overrun(text),
         Err(_) => Ending::NoMemory,
     }
 }
@@ -56,7 +88,8 @@ fn replay(alloc: Global, bytes: &[u8]) -> Ending
     match replay_text(alloc, bytes) {
         Ok(Replay::Text(text)) => Ending::Done(text),
         Ok(Replay::ConfigFault { line, rule }) => config_fault(alloc, line, rule),
-        Ok(Replay::Unbuilt) => Ending::Unbuilt,
+        Ok(Replay::ScriptFault { line, rule }) => script_fault(alloc, line, rule),
+        Ok(Replay::Overrun { turns }) => overrun(alloc, turns),
         Err(_) => Ending::NoMemory,
     }
 }
@@ -67,7 +100,7 @@ fn replay_source<S: Source>(alloc: Global, source: &mut S) -> Ending
     match read_all(alloc, source, MOST_SCRIPT) {
         Ok(bytes) => {
             if bytes.len() > MOST_SCRIPT {
-                Ending::Unbuilt
+                script_fault(alloc, 1, TOO_LONG)
             } else {
                 replay(alloc, bytes.as_slice())
             }
@@ -90,7 +123,8 @@ fn run<S: Source>(alloc: Global, words: &[String], source: &mut S) -> Ending
 /// The program: it does what the words ask for, and answers the status.
 ///
 /// 0 a transcript was printed; 1 the words are no command; 2 the source failed; 3 the sink failed; 4 the script's
-/// configuration has a fault; 8 what is asked for isn't built yet; 9 want of memory.
+/// configuration has a fault; 5 the script has one; 6 as many turns were made as may be; 8 what is asked for isn't built yet;
+/// 9 want of memory.
 pub fn replay_main<R, S: Source, K: Sink>(
     rt: &R,
     alloc: Global,
@@ -107,10 +141,15 @@ pub fn replay_main<R, S: Source, K: Sink>(
     ensures sink { result ≡ 3 → Rose (K.state sink.old).faults (K.state sink.new).faults }
     ensures config { result ≡ 4
         → IsRefused (words_of words.now) (S.state source.old) (S.state source.new) (K.state sink.old) (K.state sink.new) }
+    ensures script { result ≡ 5
+        → IsBroken (words_of words.now) (S.state source.old) (S.state source.new) (K.state sink.old) (K.state sink.new) }
+    ensures overrun { result ≡ 6
+        → IsOverrun (words_of words.now) (S.state source.old) (S.state source.new) (K.state sink.old) (K.state sink.new) }
     ensures unbuilt { result ≡ 8
         → IsUnbuilt (words_of words.now) (S.state source.old) (S.state source.new)
         × WritesAll (K.state sink.old) (K.state sink.new) unbuilt_text }
-    ensures known { (result ≡ 0) ⊎ (result ≡ 1) ⊎ (result ≡ 2) ⊎ (result ≡ 3) ⊎ (result ≡ 4) ⊎ (result ≡ 8) ⊎ (result ≡ 9) }
+    ensures known { (result ≡ 0) ⊎ (result ≡ 1) ⊎ (result ≡ 2) ⊎ (result ≡ 3) ⊎ (result ≡ 4) ⊎ (result ≡ 5)
+        ⊎ (result ≡ 6) ⊎ (result ≡ 8) ⊎ (result ≡ 9) }
 {
     let _rt = rt;
     let ending = run(alloc, words, source);

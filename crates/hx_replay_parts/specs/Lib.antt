@@ -1,2 +1,3 @@
 pub mod ReplayParts
+pub mod Plays
 pub mod Replays

@@ -1,6 +1,7 @@
 //! Replays of scripts: private parts of the program.
 #![tactic(auto)]
 
+mod any;
 mod connection;
 mod replay;
 

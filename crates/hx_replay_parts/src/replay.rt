@@ -9,8 +9,9 @@ ghost use Rattle.hx_form.specs.Routes.{IsNamed};
 ghost use Rattle.hx_form.specs.Shapes.{HasShape};
 ghost use Rattle.hx_exchange.specs.Exchanges.{CarryNone, IsExchanged};
 ghost use Rattle.hx_replay_parts.specs.ReplayParts.{IsFirst, IsOpened, TellsPlans};
-ghost use Rattle.hx_replay_parts.specs.Replays.{IsReplayOf, FaultsExclude};
+ghost use Rattle.hx_replay_parts.specs.Replays.{IsOneOf, IsReplayOf, FaultsExclude};
 
+use crate::any::replay_any;
 use crate::connection::{FirstSeat, close, dial_first, link_of, net_of};
 use hx_base::NoMemory;
 use hx_exchange::{Exchanged, exchange};
@@ -30,8 +31,10 @@ pub enum Replay {
     Text(Vec<u8>),
     /// The first fault of the script's configuration: its line there, counted from 1, and the number of its rule.
     ConfigFault { line: u32, rule: u8 },
-    /// No form of script that is built.
-    Unbuilt,
+    /// The first fault of the script: its line, counted from 1, and the number of its rule.
+    ScriptFault { line: u32, rule: u8 },
+    /// So many turns were made, as many as may be.
+    Overrun { turns: u64 },
 }
 
 /// What is told of an exchange that passed on the first connection.
@@ -82,21 +85,43 @@ fn replay_case(alloc: Global, case: Case) -> Result<Option<Transcript>, NoMemory
     }
 }
 
-/// What the bytes are replayed to: the transcript of a script of one exchange, the first fault of a script's
-/// configuration, or that they are no form that is built.
+/// What a text is replayed to as a script of one exchange.
+#[derive(Drop)]
+enum One {
+    Text(Vec<u8>),
+    ConfigFault { line: u32, rule: u8 },
+    /// It is none.
+    Other,
+}
+
+/// What the bytes are replayed to: the transcript of a script of one exchange, the first fault of a script's configuration,
+/// or neither.
+fn replay_one(alloc: Global, bytes: &[u8]) -> Result<One, NoMemory>
+    ensures { IfOk result (IsOneOf bytes.now) }
+{
+    match read_form(alloc, bytes)? {
+        Form::Unbuilt => Ok(One::Other),
+        Form::ConfigFault { line, rule } => Ok(One::ConfigFault { line, rule }),
+        Form::OneExchange(case) => match replay_case(alloc, case)? {
+            Some(told) => Ok(One::Text(print_transcript(alloc, &told)?)),
+            None => Ok(One::Other),
+        },
+    }
+}
+
+/// What the bytes are replayed to: the text of a transcript; the first fault of the script or of its configuration; or that as
+/// many turns were made as may be.
 ///
 /// # Errors
 /// `NoMemory` for want of memory.
+#[tactic(auto, using(crate::proofs::PlayLemmas::plays_other))]
 pub fn replay_text(alloc: Global, bytes: &[u8]) -> Result<Replay, NoMemory>
     ensures { IfOk result (IsReplayOf bytes.now) }
 {
-    match read_form(alloc, bytes)? {
-        Form::Unbuilt => Ok(Replay::Unbuilt),
-        Form::ConfigFault { line, rule } => Ok(Replay::ConfigFault { line, rule }),
-        Form::OneExchange(case) => match replay_case(alloc, case)? {
-            Some(told) => Ok(Replay::Text(print_transcript(alloc, &told)?)),
-            None => Ok(Replay::Unbuilt),
-        },
+    match replay_one(alloc, bytes)? {
+        One::Text(text) => Ok(Replay::Text(text)),
+        One::ConfigFault { line, rule } => Ok(Replay::ConfigFault { line, rule }),
+        One::Other => replay_any(alloc, bytes),
     }
 }
 

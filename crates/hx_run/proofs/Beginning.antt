@@ -1,19 +1,25 @@
 -- Seats at which nothing has happened hold nothing.
 use Rattle.std.proofs.Common.{◌≡◌, ◌<◌, ℕ, zero, suc, List, [], ◌∷◌, length, map, refl, sym, ap, subst, ◌∙◌, arith, Option, Some, None}
-use Rattle.std.specs.Prelude.{slice_get, ◌+◌, ◌++◌, take}
+use Rattle.std.proofs.lemmas.List.Elements.{All-push, All-head, All-tail}
+use Rattle.std.specs.Prelude.{slice_get, ◌+◌, ◌-◌, ◌++◌, take, Bool, true, cond, All}
 use Rattle.hx_base.specs.declared.numbers.SessionNo.{SessionNo}
 use Rattle.hx_base.specs.declared.numbers.ThreadNo.{ThreadNo}
 use Rattle.hx_config.specs.declared.parts.Server.{Server}
-use Rattle.hx_config.specs.Limits.{all_servers}
+use Rattle.hx_config.specs.Limits.{IsWithin, all_servers}
 use Rattle.hx_config.specs.Meaning.{Meaning}
 use Rattle.hx_plain.specs.PlainSeat.{about_alone, first_thread, IsUnused}
 use Rattle.hx_pool.specs.declared.entries.Note.{Note}
 use Rattle.hx_pool.specs.Held.{held_by}
 use Rattle.hx_pool.specs.SeatView.{About, History, IsOneHistory, StandsInOneHistory}
-use Rattle.hx_connecting.specs.Journals.{JournalRoom}
+use Rattle.hx_connecting.specs.Around.{abouts}
+use Rattle.hx_connecting.specs.Journals.{JournalRoom, room_of}
+use Rattle.hx_pool.specs.History.{marks_of}
+use Rattle.hx_pool.specs.Journal.{Journal, journal_from}
 use Rattle.hx_session.specs.Fits.{SeatsServe}
 use Rattle.hx_worker.specs.Workers.{Each, HasSeats, OwnsAll, new_worker}
 use Rattle.hx_run.specs.Begins.{BeginsFor, BeginFor}
+use Rattle.hx_run.specs.Overs.{AreAlone, IsKept}
+use Rattle.hx_run.specs.Runs.{IsWorking}
 
 some_is : {A : Type 0} (a b : A) → Some a ≡ Some b → a ≡ b
 some_is a b e = cc
@@ -90,3 +96,46 @@ pub there_below : (ss : List Server) (i : ℕ) (s : Server) → slice_get ss i �
 there_below [] i s e = cc
 there_below (x ∷ ss) zero s e = omega arith
 there_below (x ∷ ss) (suc i) s e = omega (arith, there_below ss i s e)
+
+-- one whole journal more
+pub whole_more : (js : List Journal) (j : Journal) → All (λ (k : Journal). k.whole ≡ true) js → j.whole ≡ true → All (λ (k : Journal). k.whole ≡ true) (js ++ j ∷ [])
+whole_more js j w one = All-push (λ (k : Journal). k.whole ≡ true) js j w one
+
+alone_begin : (ss : List Server) (hs : List History) → BeginFor ss hs → AreAlone ss (abouts hs)
+alone_begin [] [] b = tt
+alone_begin [] (h ∷ hs) b = elim b [ ]
+alone_begin (s ∷ ss) [] b = elim b [ ]
+alone_begin (s ∷ ss) (h ∷ hs) b = (b.0.about, alone_begin ss hs b.1)
+
+no_less : (n : ℕ) → 0 - n ≡ 0
+no_less n = omega arith
+
+-- a journal that is whole and has no mark, behind no entry, is whole from the beginning
+kept_begin : (j : Journal) → j.history.mine ≡ [] → j.whole ≡ true → journal_from j ≡ Some 0
+kept_begin j m w =
+    ap (λ (b : Bool). cond b (Some (length (marks_of j.history.mine) - length j.stored)) None) w
+    ∙ (ap (λ (xs : List Note). Some (length (marks_of xs) - length j.stored)) m ∙ ap (λ (k : ℕ). Some k) (no_less (length j.stored)))
+
+all_head : (j : Journal) (js : List Journal) → All (λ (j : Journal). j.whole ≡ true) (j ∷ js) → j.whole ≡ true
+all_head j js w = All-head (λ (j : Journal). j.whole ≡ true) j js w
+
+all_tail : (j : Journal) (js : List Journal) → All (λ (j : Journal). j.whole ≡ true) (j ∷ js) → All (λ (j : Journal). j.whole ≡ true) js
+all_tail j js w = All-tail (λ (j : Journal). j.whole ≡ true) j js w
+
+kept_all : (ss : List Server) (js : List Journal) → BeginFor ss (map (λ (j : Journal). j.history) js) → All (λ (j : Journal). j.whole ≡ true) js
+    → Each IsKept (map (room_of journal_from (λ (j : Journal). j.room)) js)
+kept_all [] [] b w = tt
+kept_all [] (j ∷ js) b w = elim b [ ]
+kept_all (s ∷ ss) [] b w = elim b [ ]
+kept_all (s ∷ ss) (j ∷ js) b w = (kept_begin j b.0.unused.mine (all_head j js w), kept_all ss js b.1 (all_tail j js w))
+
+pub begin_working : (config : Meaning) (js : List Journal) → IsWithin config.threads config.fronts config.backs → BeginFor (all_servers config.backs) (map (λ (j : Journal). j.history) js)
+    → All (λ (j : Journal). j.whole ≡ true) js
+    → IsWorking (new_worker first_thread config (map (λ (j : Journal). j.history) js) (map (room_of journal_from (λ (j : Journal). j.room)) js))
+begin_working config js within b w = record {
+  thread = refl;
+  config = within;
+  seats = begin_seats config _ _ b;
+  alone = alone_begin (all_servers config.backs) _ b;
+  whole = kept_all (all_servers config.backs) js b w;
+}

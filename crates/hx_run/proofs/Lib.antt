@@ -1,2 +1,4 @@
 pub mod Beginning
+pub mod Closing
 pub mod Going
+pub mod Working

@@ -1,13 +1,18 @@
 //! A replay under way.
-ghost use Rattle.std.specs.Prelude.{◌≡◌, ◌<◌, ◌≤◌, ◌++◌, [], true, false, All, IfOk, OnOk, IsSome, Ok, length};
+ghost use Rattle.std.specs.Prelude.{◌≡◌, ◌+◌, ◌<◌, ◌≤◌, ◌++◌, [], true, false, ℕ, All, IfOk, OnOk, IsSome, Ok, Err, length, map};
 ghost use Rattle.hx_config.specs.Limits.{all_servers};
 ghost use Rattle.hx_config.specs.Views.{meaning};
 ghost use Rattle.hx_caretaker.specs.Orders.{ordered_server};
 ghost use Rattle.hx_link.specs.MemoryNets.{IsPlan};
 ghost use Rattle.hx_script_parts.specs.Limits.{is_client_of};
-ghost use Rattle.hx_worker.specs.Workers.{session_of};
+ghost use Rattle.hx_worker.specs.Workers.{Each, session_of};
 ghost use Rattle.hx_session.specs.declared.step.Waits.TheVariants.{Ended};
-ghost use Rattle.hx_run.specs.Runs.{GoesOn, told_of};
+ghost use Rattle.hx_connecting.specs.Journals.{room_of};
+ghost use Rattle.hx_pool.specs.Journal.{Journal, journal_from};
+ghost use Rattle.hx_run.specs.Overs.{HasRoom, ClosedBelow};
+ghost use Rattle.hx_run.specs.Rooms.{RoomBelow};
+ghost use Rattle.hx_run.specs.Runs.{GoesOn, IsRun, IsWorking, IsRoomier, CarriedOut, Ticked, told_of};
+ghost use Rattle.hx_run.specs.declared.running.Halt.TheVariants as halt;
 
 use crate::seats::{RunSeat, seats_of};
 use hx_base::{Millis, NoMemory, Order, ServerNo, SessionNo, ThreadNo};
@@ -23,6 +28,12 @@ use std::marker::Model;
 /// The one thread.
 const THREAD: ThreadNo = ThreadNo(0);
 
+/// The most marks that a step or a stop makes at a seat.
+const STEP_MARKS: usize = 4;
+
+/// The most marks that an order or a round of the caretaker makes at a seat.
+const CARE_MARKS: usize = 2_049;
+
 /// Why a replay stops before its end.
 #[derive(Clone, Copy, PartialEq, Eq, Debug)]
 pub enum Halt {
@@ -32,9 +43,19 @@ pub enum Halt {
 }
 
 impl From<NoMemory> for Halt {
+    ghost from_gives = { λ _ e. e ≡ halt.NoMemory };
+
     fn from(_: NoMemory) -> Halt {
         Halt::NoMemory
     }
+}
+
+/// What is left of a replay that is over.
+#[derive(Drop)]
+pub struct Over {
+    pub records: Vec<Told>,
+    pub seats: Vec<RunSeat>,
+    pub net: MemoryNet,
 }
 
 /// Adds what a step or a stop told.
@@ -60,10 +81,42 @@ fn is_over(step: Step) -> bool
     }
 }
 
+/// Makes room at a server for so many marks more.
+fn room_at(worker: &mut RunWorker<'_>, at: ServerNo, marks: usize) -> Result<(), NoMemory>
+    requires working { IsWorking worker.old }
+    requires there { at.0 < length worker.old.seats }
+    ensures working { IsWorking worker.new }
+    ensures same { IsRoomier worker.old worker.new }
+    ensures room { (k : ℕ) → k ≡ at.0 → RoomBelow marks k worker.old.journals
+        → OnOk result (RoomBelow marks (k + 1) worker.new.journals) }
+    ensures size { length worker.new.journals ≡ length worker.old.journals }
+{
+    worker.seat_mut(at).reserve(marks)
+}
+
+/// Makes room at each server for so many marks more.
+#[tactic(auto, using(crate::proofs::Working::room_none, crate::proofs::Working::room_all, crate::proofs::Working::seats_few))]
+fn make_room(worker: &mut RunWorker<'_>, marks: usize) -> Result<(), NoMemory>
+    requires working { IsWorking worker.old }
+    ensures working { IsWorking worker.new }
+    ensures same { IsRoomier worker.old worker.new }
+    ensures room { OnOk result (Each (HasRoom marks) worker.new.journals) }
+{
+    let mut at = 0;
+    while at < worker.servers() {
+        room_at(worker, ServerNo(at as u16), marks)?;
+        at += 1;
+    }
+    Ok(())
+}
+
+/// The worker of the one thread.
+type RunWorker<'a> = Worker<'a, RunSeat, MemoryLink>;
+
 /// The worker and its net, what was told, and how many turns were made: a turn is a step that moved.
 #[derive(Drop)]
 pub struct Running<'a> {
-    worker: Worker<'a, RunSeat, MemoryLink>,
+    worker: RunWorker<'a>,
     net: MemoryNet,
     records: Vec<Told>,
     turns: u64,
@@ -144,20 +197,33 @@ impl<'a> Running<'a> {
     }
 
     /// Carries out an order.
-    pub fn order(&mut self, what: Order)
+    ///
+    /// # Errors
+    /// `NoMemory`.
+    pub fn order(&mut self, what: Order) -> Result<(), NoMemory>
         requires there { (ordered_server what).0 < length (all_servers self.old.worker.config.backs) }
         ensures goes { GoesOn self.old self.new }
         ensures sessions { self.new.worker.sessions ≡ self.old.worker.sessions }
+        ensures carries { OnOk result (CarriedOut what self.old.worker.seats self.new.worker.seats) }
+        ensures run { IsRun self.old × IsRun self.new }
     {
+        make_room(&mut self.worker, CARE_MARKS)?;
         self.worker.order(&mut self.net, what);
+        Ok(())
     }
 
     /// The caretaker's round.
-    pub fn tick(&mut self, now: Millis)
+    ///
+    /// # Errors
+    /// `NoMemory`.
+    pub fn tick(&mut self, now: Millis) -> Result<(), NoMemory>
         ensures goes { GoesOn self.old self.new }
         ensures sessions { self.new.worker.sessions ≡ self.old.worker.sessions }
+        ensures ticks { OnOk result (Ticked now self.old.worker.seats self.new.worker.seats) }
     {
+        make_room(&mut self.worker, CARE_MARKS)?;
         self.worker.tick(&mut self.net, now);
+        Ok(())
     }
 
     /// A step of a session, and what it tells.
@@ -168,6 +234,7 @@ impl<'a> Running<'a> {
         ensures stays { IfOk result (λ r. (r.waits ≡ Ended → ⊥) → IsSome (session_of self.new.worker.sessions n.0)) }
         ensures told { IfOk result (λ r. self.new.records ≡ self.old.records ++ told_of r.served r.left) }
     {
+        make_room(&mut self.worker, STEP_MARKS)?;
         let step = self.worker.step(&mut self.net, n, now);
         tell(&mut self.records, step.served, step.left)?;
         Ok(step)
@@ -182,6 +249,7 @@ impl<'a> Running<'a> {
         ensures goes { GoesOn self.old self.new }
         ensures moved { result ≡ Ok true → self.old.turns < self.new.turns }
         ensures within { self.new.turns ≤ self.new.most }
+        ensures overrun { result ≡ Err halt.Overrun → self.new.turns ≡ self.new.most }
         ensures there { result ≡ Ok true → IsSome (session_of self.new.worker.sessions n.0) }
     {
         if self.turns >= self.most {
@@ -202,6 +270,7 @@ impl<'a> Running<'a> {
         requires there { IsSome (session_of self.old.worker.sessions n.0) }
         ensures goes { GoesOn self.old self.new }
         ensures within { self.new.turns ≤ self.new.most }
+        ensures overrun { result ≡ Err halt.Overrun → self.new.turns ≡ self.new.most }
     {
         while self.turn(n, now)? {}
         Ok(())
@@ -216,6 +285,7 @@ impl<'a> Running<'a> {
         ensures goes { GoesOn self.old self.new }
         ensures moved { result ≡ Ok true → self.old.turns < self.new.turns }
         ensures within { self.new.turns ≤ self.new.most }
+        ensures overrun { result ≡ Err halt.Overrun → self.new.turns ≡ self.new.most }
     {
         let before = self.turns;
         let mut after = SessionNo(0);
@@ -232,6 +302,7 @@ impl<'a> Running<'a> {
     /// As many turns were made as may be, or for want of memory.
     pub fn rounds(&mut self, now: Millis) -> Result<(), Halt>
         ensures goes { GoesOn self.old self.new }
+        ensures overrun { result ≡ Err halt.Overrun → self.new.turns ≡ self.new.most }
     {
         while self.round(now)? {}
         Ok(())
@@ -243,6 +314,7 @@ impl<'a> Running<'a> {
         ensures fewer { result ≡ Ok true → length self.new.worker.sessions < length self.old.worker.sessions }
         ensures none { result ≡ Ok false → self.new.worker.sessions ≡ [] }
     {
+        make_room(&mut self.worker, STEP_MARKS)?;
         match self.worker.stop_next(&mut self.net) {
             Some(stopped) => {
                 tell(&mut self.records, stopped.served, Some(stopped.left))?;
@@ -262,5 +334,72 @@ impl<'a> Running<'a> {
     {
         while self.stop_one()? {}
         Ok(())
+    }
+
+    /// Drains a server.
+    fn drain(&mut self, server: ServerNo) -> Result<(), NoMemory>
+        requires there { server.0 < length (all_servers self.old.worker.config.backs) }
+        requires empty { self.old.worker.sessions ≡ [] }
+        ensures goes { GoesOn self.old self.new }
+        ensures empty { self.new.worker.sessions ≡ [] }
+        ensures closed { (k : ℕ) → k ≡ server.0 → ClosedBelow k self.old.worker.seats
+            → OnOk result (ClosedBelow (k + 1) self.new.worker.seats) }
+    {
+        self.order(Order::Drain(server))
+    }
+
+    /// How many servers there are.
+    #[tactic(auto, using(crate::proofs::Working::seats_few, crate::proofs::Working::seats_all))]
+    fn servers(&self) -> usize
+        ensures seats { result ≡ length self.now.worker.seats }
+        ensures all { result ≡ length (all_servers self.now.worker.config.backs) }
+        ensures few { result ≤ 32 }
+    {
+        self.worker.servers()
+    }
+
+    /// Drains each server, in order.
+    ///
+    /// # Errors
+    /// `NoMemory`.
+    pub fn drain_all(&mut self) -> Result<(), NoMemory>
+        requires empty { self.old.worker.sessions ≡ [] }
+        ensures goes { GoesOn self.old self.new }
+        ensures empty { self.new.worker.sessions ≡ [] }
+        ensures closed { OnOk result (ClosedBelow (length self.new.worker.seats) self.new.worker.seats) }
+    {
+        let mut at = 0;
+        while at < self.servers() {
+            self.drain(ServerNo(at as u16))?;
+            at += 1;
+        }
+        Ok(())
+    }
+
+    /// What is left once all is over.
+    ///
+    /// # Errors
+    /// `NoMemory` where memory was wanted for a link or for what the net keeps.
+    pub fn end(self) -> Result<Over, NoMemory>
+        ensures seats { IfOk result (λ r. map (λ (j : Journal). j.history) r.seats.items ≡ self.entry.worker.seats) }
+        ensures journals { IfOk result (λ r. map (room_of journal_from (λ (j : Journal). j.room)) r.seats.items ≡ self.entry.worker.journals) }
+        ensures records { IfOk result (λ r. r.records.items ≡ self.entry.records) }
+        ensures net { IfOk result (λ r. (r.net ≡ self.entry.net) × (r.net.starved ≡ false)) }
+        ensures run { IsRun self.entry }
+    {
+        if self.net.starved() {
+            return Err(NoMemory);
+        }
+        let Running {
+            worker,
+            net,
+            records,
+            ..
+        } = self;
+        Ok(Over {
+            records,
+            seats: worker.into_seats(),
+            net,
+        })
     }
 }

@@ -1,5 +1,5 @@
 //! The seats of the one thread.
-ghost use Rattle.std.specs.Prelude.{◌≡◌, true, IfOk, map};
+ghost use Rattle.std.specs.Prelude.{◌≡◌, true, All, IfOk, map};
 ghost use Rattle.hx_config.specs.Limits.{all_servers};
 ghost use Rattle.hx_pool.specs.Journal.{Journal};
 ghost use Rattle.hx_run.specs.Begins.{BeginsFor, BeginFor};
@@ -31,6 +31,7 @@ fn seat_of(alloc: Global, server: &Server) -> Result<RunSeat, NoMemory>
 #[tactic(auto, using(crate::proofs::Beginning::begin_more, crate::proofs::Beginning::begin_all))]
 pub(crate) fn seats_of(alloc: Global, config: &Config) -> Result<Vec<RunSeat>, NoMemory>
     ensures begin { IfOk result (λ seats. BeginFor (all_servers config.now.backs) (map (λ (j : Journal). j.history) seats.items)) }
+    ensures whole { IfOk result (λ seats. All (λ (j : Journal). j.whole ≡ true) seats.items) }
 {
     let mut seats = Vec::new(alloc);
     let mut at = 0;

@@ -239,4 +239,21 @@ impl<'a, S: Seat<Rested<L>>, L: Link> Worker<'a, S, L> {
     {
         &mut self.seats[server.0 as usize]
     }
+
+    /// How many servers it has seats of.
+    pub fn servers(&self) -> usize
+        ensures seats { result ≡ length self.now.seats }
+        ensures journals { result ≡ length self.now.journals }
+    {
+        self.seats.len()
+    }
+
+    /// The seats, by server. Sessions that are left are let go with all that they have.
+    pub fn into_seats(self) -> Vec<S>
+        ensures seats { map S.history result.items ≡ self.entry.seats }
+        ensures journals { map (room_of S.kept_from S.spare) result.items ≡ self.entry.journals }
+    {
+        let Worker { seats, .. } = self;
+        seats
+    }
 }

@@ -5,7 +5,7 @@ use Rattle.hx_replay.proofs.run.replay_source.Goals as goal
 
 pub returns-then-len-gt-MOST_SCRIPT : goal.returns-then-len-gt-MOST_SCRIPT
 returns-then-len-gt-MOST_SCRIPT g c =
-    long_has_cause _ _ c.in-Ok.bytes.items c.in-Ok.ensures.reads (omega (arith, c.if-len-gt-MOST_SCRIPT.true, c.len.ensures))
+    long_has_cause _ _ c.in-Ok.bytes.items c.script_fault.result c.in-Ok.ensures.reads (omega (arith, c.if-len-gt-MOST_SCRIPT.true, c.len.ensures)) c.script_fault.ensures
 
 pub returns-in-Ok : goal.returns-in-Ok
 returns-in-Ok g c =

@@ -1,10 +1,10 @@
-use Rattle.std.proofs.Common.{◌≡◌, ◌+◌, List, [], ◌∷◌, map, ap, sym, ◌∙◌, subst, arith, take}
+use Rattle.std.proofs.Common.{true, All, ◌≡◌, ◌+◌, List, [], ◌∷◌, map, ap, sym, ◌∙◌, subst, arith, take}
 use Rattle.std.proofs.lemmas.List.{map-append}
 use Rattle.hx_config.specs.Limits.{all_servers}
 use Rattle.hx_pool.specs.Journal.{Journal}
 use Rattle.hx_pool.specs.SeatView.{History}
 use Rattle.hx_run.specs.Begins.{BeginFor}
-use Rattle.hx_run.proofs.Beginning.{begin_more, there_below}
+use Rattle.hx_run.proofs.Beginning.{begin_more, there_below, whole_more}
 use Rattle.hx_run.proofs.seats.seats_of.Goals as goal
 
 pub loop-server-preserved : goal.loop-server-preserved
@@ -16,4 +16,5 @@ loop-server-preserved c =
       subst (λ (l : List History). BeginFor (take (at + 1) ss) l)
           (sym (ap (map h) c.in_ok-push.ensures.items ∙ map-append h c.loop-server.seats.items (j ∷ [])))
           (begin_more ss (map h c.loop-server.seats.items) at s j.history c.loop-server.invariant.1 there c.in_ok-seat_of.ensures.begins),
+      subst (λ (l : List Journal). All (λ (k : Journal). k.whole ≡ true) l) (sym c.in_ok-push.ensures.items) (whole_more c.loop-server.seats.items j c.loop-server.invariant.2 c.in_ok-seat_of.ensures.whole),
     )

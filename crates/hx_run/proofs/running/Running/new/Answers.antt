@@ -1,8 +1,9 @@
-use Rattle.std.proofs.Common.{◌≡◌, ap, sym, subst, arith}
+use Rattle.std.proofs.Common.{◌≡◌, List, ap, sym, subst, arith}
 use Rattle.hx_config.specs.Views.{meaning}
 use Rattle.hx_link.specs.MemoryNets.{MemoryNetNow}
 use Rattle.hx_worker.specs.Workers.{WorkerNow, HasSeats}
-use Rattle.hx_run.proofs.Beginning.{begin_seats}
+use Rattle.hx_run.specs.Runs.{IsWorking}
+use Rattle.hx_run.proofs.Beginning.{begin_seats, begin_working}
 use Rattle.hx_run.proofs.running.Running.new.Goals as goal
 
 pub new-requires-2 : goal.new-requires-2
@@ -10,8 +11,7 @@ new-requires-2 c = record { seats = begin_seats (meaning c.args.config.now) _ _ 
 
 pub invariant_of-result : goal.invariant_of-result
 invariant_of-result c = record {
-  thread = ap (λ (w : WorkerNow). w.thread) c.in_ok-worker.ensures.begins;
+  working = subst IsWorking (sym c.in_ok-worker.ensures.begins) (begin_working (meaning c.args.config.now) _ c.args.config.now.within c.in_ok-seats.ensures.begin c.in_ok-seats.ensures.whole);
   loop = ap (λ (n : MemoryNetNow). n.state.loop_no) c.in_ok-net.ensures.begins;
-  seats = subst HasSeats (sym c.in_ok-worker.ensures.begins) (begin_seats (meaning c.args.config.now) _ _ c.in_ok-seats.ensures.begin);
   within = omega arith;
 }

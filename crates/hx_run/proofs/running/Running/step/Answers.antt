@@ -1,5 +1,14 @@
 use Rattle.hx_run.proofs.Going.{steps_there}
+use Rattle.hx_run.proofs.Working.{stepped_run}
 use Rattle.hx_run.proofs.running.Running.step.Goals as goal
+
+pub invariant_of-self-in_err-tell : goal.invariant_of-self-in_err-tell
+invariant_of-self-in_err-tell c =
+    stepped_run _ _ _ _ _ _ _ c.self.invariant c.make_room.ensures.working c.in_ok-make_room.ensures.room c.step-step.ensures.steps c.step-step.ensures.seats
+
+pub invariant_of-self-2 : goal.invariant_of-self-2
+invariant_of-self-2 c =
+    stepped_run _ _ _ _ _ _ _ c.self.invariant c.make_room.ensures.working c.in_ok-make_room.ensures.room c.step-step.ensures.steps c.step-step.ensures.seats
 
 pub returns-clause-stays : goal.returns-clause-stays
 returns-clause-stays c = λ no. steps_there _ _ _ _ _ _ c.step-step.ensures.steps no

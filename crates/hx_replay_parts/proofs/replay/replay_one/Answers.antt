@@ -3,7 +3,7 @@ use Rattle.hx_script.specs.declared.transcript.Transcript.{Transcript}
 use Rattle.hx_form.specs.Forms.{IsForm, IsOneExchange}
 use Rattle.hx_exchange.specs.Exchanges.{CarryNone}
 use Rattle.hx_replay_parts.specs.ReplayParts.{TellsPlans}
-use Rattle.hx_replay_parts.proofs.replay.replay_text.Goals as goal
+use Rattle.hx_replay_parts.proofs.replay.replay_one.Goals as goal
 
 pub returns-in_ok-print_transcript-in-Some : goal.returns-in_ok-print_transcript-in-Some
 returns-in_ok-print_transcript-in-Some c =

@@ -1,0 +1,73 @@
+-- The replay of any script.
+use Rattle.std.proofs.Common.{◌≡◌, ℕ, suc, ◌+◌, ◌<◌, ◌≤◌, List, [], ◌∷◌, ◌++◌, length, map, refl, sym, ap, ◌∙◌, subst, arith, lt-ltb, Result, Ok, Err, inl, inr}
+use Rattle.std.specs.List.{flat_map}
+use native.Mathlib.Decide.{dec_lt}
+use mathlib.Core.Logic.{dite}
+use Rattle.hx_config.specs.declared.parts.Back.{Back}
+use Rattle.hx_config.specs.declared.parts.Server.{Server}
+use Rattle.hx_pool.specs.Journal.{Journal}
+use Rattle.hx_script.specs.declared.transcript.ServerPart.{ServerPart}
+use Rattle.hx_script_parts.specs.Meaning.{Meaning, longest_text, meaning_of}
+use Rattle.hx_script_parts.specs.declared.fault.Flaw.{Flaw}
+use Rattle.hx_script_parts.specs.declared.fault.Flaw.TheVariants as flaw
+use Rattle.hx_script_parts.specs.declared.fault.Rule.TheVariants.{TooLong}
+use Rattle.hx_config.specs.Limits.{all_servers}
+use Rattle.hx_run.specs.Overs.{AreOver}
+use Rattle.hx_told.specs.Servers.{named_of, named_servers, parts_of}
+use Rattle.hx_told.specs.declared.servers.Named.{Named}
+use Rattle.std.specs.Prelude.{IfOk}
+use Rattle.hx_base.specs.declared.numbers.NoMemory.{NoMemory}
+use Rattle.hx_form.specs.Forms.{IsUnbuiltScript}
+use Rattle.hx_replay_parts.specs.declared.replay.Replay.{Replay}
+use Rattle.hx_replay_parts.specs.declared.replay.Replay.TheVariants as replay
+use Rattle.hx_replay_parts.specs.Plays.{named_parts, IsPlayOf}
+use Rattle.hx_replay_parts.specs.Replays.{IsReplayOf}
+
+too_long : (text : List ℕ) → longest_text < length text → meaning_of text ≡ Err (flaw.Line 1 TooLong)
+unfolding meaning_of
+too_long text long = rw (lt-ltb longest_text (length text) long) refl
+
+-- a text that was read isn't too long
+pub read_is_short : (text : List ℕ) (m : Meaning) → meaning_of text ≡ Ok m → length text ≤ longest_text
+read_is_short text m reads = dite (dec_lt longest_text (length text))
+    (λ long. absurd (let both : ◌≡◌ {A = Result Meaning Flaw} (Ok m) (Err (flaw.Line 1 TooLong)) = sym reads ∙ too_long text long in cc))
+    (λ short. omega (arith, short))
+
+parts_are : (names : List Named) (seats : List Journal) → length seats ≡ length names → named_parts (parts_of names seats) ≡ names
+parts_are [] seats e = refl
+parts_are (n ∷ names) [] e = absurd (omega (arith, e))
+parts_are (n ∷ names) (j ∷ seats) e = ap (λ (l : List Named). n ∷ l) (parts_are names seats (omega (arith, e)))
+
+count_more : (b : Back) (ss : List Server) (names : List Named) → length (map (named_of b) ss ++ names) ≡ length ss + length names
+count_more b [] names = refl
+count_more b (s ∷ ss) names = ap suc (count_more b ss names)
+
+servers_more : (xs ys : List Server) → length (xs ++ ys) ≡ length xs + length ys
+servers_more [] ys = refl
+servers_more (x ∷ xs) ys = ap suc (servers_more xs ys)
+
+names_count : (backs : List Back) → length (named_servers backs) ≡ length (all_servers backs)
+names_count [] = refl
+names_count (b ∷ backs) =
+    count_more b b.servers (named_servers backs) ∙ (ap (λ (k : ℕ). length b.servers + k) (names_count backs) ∙ sym (servers_more b.servers (all_servers backs)))
+
+pub over_count : (servers : List Server) (seats : List Journal) → AreOver servers seats → length seats ≡ length servers
+over_count [] [] o = refl
+over_count [] (j ∷ seats) o = absurd o
+over_count (s ∷ servers) [] o = absurd o
+over_count (s ∷ servers) (j ∷ seats) o = ap suc (over_count servers seats o.1)
+
+-- one seat a server: the parts have the servers' names and rules
+pub parts_named : (backs : List Back) (seats : List Journal) → length seats ≡ length (all_servers backs) → named_parts (parts_of (named_servers backs) seats) ≡ named_servers backs
+parts_named backs seats e = parts_are (named_servers backs) seats (e ∙ sym (names_count backs))
+
+-- what isn't a script of one exchange is replayed as any script
+play_other : (bytes : List ℕ) (r : Replay) → IsUnbuiltScript bytes → IsPlayOf bytes r → IsReplayOf bytes r
+play_other bytes (replay.Text text) other p = inr (other, p)
+play_other bytes (replay.ConfigFault line rule) other p = p
+play_other bytes (replay.ScriptFault line rule) other p = p
+play_other bytes (replay.Overrun turns) other p = (other, p)
+
+pub plays_other : (bytes : List ℕ) (r : Result Replay NoMemory) → IsUnbuiltScript bytes → IfOk r (IsPlayOf bytes) → IfOk r (IsReplayOf bytes)
+plays_other bytes (Ok r) other p = play_other bytes r other p
+plays_other bytes (Err e) other p = tt

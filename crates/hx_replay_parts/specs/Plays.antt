@@ -1,0 +1,79 @@
+-- What any script of one thread is replayed to.
+use Rattle.std.specs.Prelude.{◌≡◌, ℕ, ◌+◌, ◌*◌, ◌<◌, ◌⊎◌, List, map, length, Ok, Err}
+use Rattle.hx_config.specs.declared.parts.Back.{Back}
+use Rattle.hx_form.specs.Forms.{HasConfigFault}
+use Rattle.hx_script.specs.TrueTranscript.{AreTrueServers}
+use Rattle.hx_script.specs.Printed.{Spells}
+use Rattle.hx_script.specs.declared.transcript.ServerPart.{ServerPart}
+use Rattle.hx_script.specs.declared.transcript.Transcript.{Transcript}
+use Rattle.hx_script_parts.specs.Faults.{code_of}
+use Rattle.hx_script_parts.specs.Meaning.{Meaning, meaning_of}
+use Rattle.hx_script_parts.specs.declared.fault.Flaw.TheVariants as flaw
+use Rattle.hx_script_parts.specs.declared.fault.Rule.{Rule}
+use Rattle.hx_script_parts.specs.declared.fault.Rule.TheVariants.{BadWorker}
+use Rattle.hx_told.specs.Servers.{named_servers}
+use Rattle.hx_told.specs.declared.servers.Named.{Named}
+use Rattle.hx_replay_parts.specs.declared.replay.Replay.{Replay}
+use Rattle.hx_replay_parts.specs.declared.replay.Replay.TheVariants as replay
+
+-- the names and the rules of a transcript's servers
+abbrev pub named_parts : List ServerPart → List Named
+named_parts parts = map (λ (p : ServerPart). record { back = p.back; server = p.server; rules = p.rules }) parts
+
+-- the text spells a transcript whose servers are those of the configuration, in order, by name and rules; and the marks and
+-- the totals of each are those of one legal history that keeps mode and limit, in which every connection that was opened is
+-- closed at the end
+pub record TellsServers (script : Meaning) (text : List ℕ) : Type 0 where
+  pub transcript : Transcript
+  pub spells : Spells text transcript
+  pub servers : named_parts transcript.servers ≡ named_servers script.config.backs
+  pub are_true : AreTrueServers transcript.servers transcript.totals
+
+-- the bytes are a script of one thread, and the text tells its servers
+pub record Plays (bytes text : List ℕ) : Type 0 where
+  pub script : Meaning
+  pub reads : meaning_of bytes ≡ Ok script
+  pub one : script.config.threads ≡ 1
+  pub tells : TellsServers script text
+
+-- the line of a script that says how long its configuration is
+abbrev pub config_line : ℕ
+config_line = 2
+
+-- a configuration has several threads, and no worker but the first is there
+pub record HasThreads (bytes : List ℕ) (line rule : ℕ) : Type 0 where
+  pub script : Meaning
+  pub reads : meaning_of bytes ≡ Ok script
+  pub several : 1 < script.config.threads
+  pub line_is : line ≡ config_line
+  pub rule_is : rule ≡ code_of BadWorker
+
+-- the first fault of a line of the script, or else several threads: the line, counted from 1, and the number of its rule
+abbrev pub HasScriptFault : List ℕ → ℕ → ℕ → Type 0
+HasScriptFault bytes line rule =
+    ((broken : Rule) × (meaning_of bytes ≡ Err (flaw.Line line broken)) × (rule ≡ code_of broken))
+    ⊎ HasThreads bytes line rule
+
+-- how many turns a replay may make
+abbrev pub most_turns : ℕ → ℕ → ℕ
+most_turns bytes clients = 16 * bytes + 64 * clients
+
+-- the bytes are a script of one thread, and so many turns are as many as its replay may make
+pub record Overruns (bytes : List ℕ) (turns : ℕ) : Type 0 where
+  pub script : Meaning
+  pub reads : meaning_of bytes ≡ Ok script
+  pub one : script.config.threads ≡ 1
+  pub most : turns ≡ most_turns (length bytes) (length script.clients)
+
+-- what any script is replayed to
+abbrev pub IsPlayOf : List ℕ → Replay → Type 0
+IsPlayOf bytes (replay.Text text) = Plays bytes text.items
+IsPlayOf bytes (replay.ConfigFault line rule) = HasConfigFault bytes line rule
+IsPlayOf bytes (replay.ScriptFault line rule) = HasScriptFault bytes line rule
+IsPlayOf bytes (replay.Overrun turns) = Overruns bytes turns
+
+-- what a script is replayed to, where so many turns may be made
+abbrev pub IsRunOf : Meaning → ℕ → Replay → Type 0
+IsRunOf script most (replay.Text text) = TellsServers script text.items
+IsRunOf script most (replay.Overrun turns) = turns ≡ most
+IsRunOf script most _ = ⊥

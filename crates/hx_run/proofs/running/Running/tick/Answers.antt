@@ -1,0 +1,5 @@
+use Rattle.hx_run.proofs.Working.{ticked_run}
+use Rattle.hx_run.proofs.running.Running.tick.Goals as goal
+
+pub invariant_of-self-2 : goal.invariant_of-self-2
+invariant_of-self-2 c = ticked_run _ _ _ _ _ _ c.self.invariant c.make_room.ensures.working c.in_ok-make_room.ensures.room c.tick.ensures.ticks c.tick.ensures.seats

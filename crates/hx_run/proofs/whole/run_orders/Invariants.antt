@@ -1,0 +1,10 @@
+use Rattle.std.proofs.Common.{length}
+use Rattle.hx_run.specs.Dues.{AreDue}
+use Rattle.hx_run.specs.Runs.{GoesOn}
+use Rattle.hx_run.proofs.whole.run_orders.Given as goal
+
+abbrev pub invariant-loop-what : goal.invariant-loop-what
+invariant-loop-what l = GoesOn l.fn.running l.running × AreDue l.fn.running.worker.config l.due
+
+abbrev pub decreases-loop-what : goal.decreases-loop-what
+decreases-loop-what l = length l.due.orders.items

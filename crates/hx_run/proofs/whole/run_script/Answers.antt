@@ -1,0 +1,36 @@
+use Rattle.std.proofs.Common.{◌≡◌, List, All, sym, subst, ◌∙◌}
+use Rattle.hx_base.specs.declared.plan.Plan.{Plan}
+use Rattle.hx_config.specs.Limits.{all_servers}
+use Rattle.hx_config.specs.Meaning.{Meaning}
+use Rattle.hx_config.specs.Views.{meaning}
+use Rattle.hx_link.specs.MemoryNets.{IsPlan}
+use Rattle.hx_pool.specs.Journal.{Journal}
+use Rattle.hx_run.specs.Dues.{AreDue}
+use Rattle.hx_run.specs.Overs.{AreOver}
+use Rattle.hx_run.proofs.Working.{all_plans, all_due, run_over}
+use Rattle.hx_run.proofs.whole.run_script.Goals as goal
+
+pub new-requires : goal.new-requires
+new-requires c = record {
+  plans = subst (λ (l : List Plan). All IsPlan l) (sym c.into_vec-plans.ensures)
+      (all_plans (meaning c.args.script.config) c.args.script.plans c.args.script.within.plans_hold);
+}
+
+pub run_moments-requires : goal.run_moments-requires
+run_moments-requires c =
+    let script = c.args.script in record {
+      due = subst (λ (m : Meaning). AreDue m (record { clients = c.in_ok-clients_due.field-0; orders = c.in_ok-orders_due.field-0 })) (sym c.in_ok-running.ensures.config)
+          (all_due (meaning script.config) script.config.within script.clients script.orders
+          (record { clients = c.in_ok-clients_due.field-0; orders = c.in_ok-orders_due.field-0 })
+          script.within.clients_hold script.within.orders_hold c.in_ok-clients_due.ensures.same c.in_ok-orders_due.ensures.same);
+    }
+
+pub returns-clause-over : goal.returns-clause-over
+returns-clause-over c =
+    let seats = c.in_ok-over.over.seats.items in
+    let w = c.drain_all.new.self.worker in
+    let over : AreOver (all_servers w.config.backs) seats = run_over w seats c.in_ok-over.ensures.run.working c.in_ok-drain_all.ensures.closed c.in_ok-over.ensures.seats c.in_ok-over.ensures.journals in
+    let config : w.config ≡ meaning c.args.script.config =
+    c.in_ok-drain_all.ensures.goes.config ∙ c.in_ok-stop_all.ensures.goes.config ∙ c.in_ok-run_moments.ensures.goes.config ∙ c.in_ok-running.ensures.config in
+    subst (λ (l : List Journal). AreOver (all_servers c.args.script.config.backs) l) (sym c.from_vec-2.ensures)
+    (subst (λ (m : Meaning). AreOver (all_servers m.backs) seats) config over)

@@ -1,0 +1,98 @@
+//! The replay of a whole script, by its moments.
+ghost use Rattle.std.specs.Prelude.{◌≡◌, false, IfOk};
+ghost use Rattle.hx_config.specs.Limits.{all_servers};
+ghost use Rattle.hx_config.specs.Views.{meaning};
+ghost use Rattle.hx_run.specs.Dues.{AreDue};
+ghost use Rattle.hx_run.specs.Overs.{AreOver};
+ghost use Rattle.hx_run.specs.Runs.{GoesOn};
+
+use crate::due::{Due, clients_due, orders_due};
+use crate::ran::Ran;
+use crate::running::{Halt, Running};
+use hx_base::{Items, Millis, NoMemory};
+use hx_script_parts::Script;
+use std::alloc::Global;
+
+/// The orders of a moment are carried out.
+fn run_orders(running: &mut Running<'_>, due: &mut Due, now: Millis) -> Result<(), NoMemory>
+    requires due { AreDue running.old.worker.config due.old }
+    ensures goes { GoesOn running.old running.new }
+    ensures due { AreDue running.old.worker.config due.new }
+{
+    while let Some(what) = due.order(now) {
+        running.order(what)?;
+    }
+    Ok(())
+}
+
+/// The clients of a moment come.
+fn run_clients(running: &mut Running<'_>, due: &mut Due, now: Millis) -> Result<(), NoMemory>
+    requires due { AreDue running.old.worker.config due.old }
+    ensures goes { GoesOn running.old running.new }
+    ensures due { AreDue running.old.worker.config due.new }
+{
+    while let Some(line) = due.client(now) {
+        running.come(line, now)?;
+    }
+    Ok(())
+}
+
+/// A moment: its orders, its clients, the caretaker's round, and rounds until nothing moves.
+fn run_moment(running: &mut Running<'_>, due: &mut Due, now: Millis) -> Result<(), Halt>
+    requires due { AreDue running.old.worker.config due.old }
+    ensures goes { GoesOn running.old running.new }
+    ensures due { AreDue running.old.worker.config due.new }
+{
+    run_orders(running, due, now)?;
+    run_clients(running, due, now)?;
+    running.tick(now)?;
+    running.rounds(now)
+}
+
+/// The moments in order.
+fn run_moments(running: &mut Running<'_>, due: &mut Due, moments: &[Millis]) -> Result<(), Halt>
+    requires due { AreDue running.old.worker.config due.old }
+    ensures goes { GoesOn running.old running.new }
+{
+    for now in moments {
+        run_moment(running, due, *now)?;
+    }
+    Ok(())
+}
+
+/// Replays a script of one thread: its moments in order, and behind the last one each session is stopped and each server is
+/// drained. So many turns may be made.
+///
+/// # Errors
+/// As many turns were made as may be and a session is there that may go on, or for want of memory.
+pub fn run_script(alloc: Global, script: Script, most: u64) -> Result<Ran, Halt>
+    ensures config { IfOk result (λ ran. ran.config ≡ script.config) }
+    ensures over { IfOk result (λ ran. AreOver (all_servers script.config.backs) ran.seats) }
+    ensures told { IfOk result (λ ran. ran.net.starved ≡ false) }
+{
+    let Script {
+        config,
+        clients,
+        plans,
+        orders,
+        moments,
+        ..
+    } = script;
+    let plans = plans.into_vec();
+    let mut due = Due {
+        clients: clients_due(clients)?,
+        orders: orders_due(orders)?,
+    };
+    let room = plans.len() + due.clients.len();
+    let mut running = Running::new(alloc, &config, plans, room, most)?;
+    run_moments(&mut running, &mut due, moments.as_slice())?;
+    running.stop_all()?;
+    running.drain_all()?;
+    let over = running.end()?;
+    Ok(Ran {
+        config,
+        records: Items::from_vec(over.records),
+        seats: Items::from_vec(over.seats),
+        net: over.net,
+    })
+}
