@@ -14,7 +14,7 @@ use Rattle.hx_replay.specs.declared.ending.Ending.TheVariants as ending
 use Rattle.hx_replay.specs.Endings.{HasCause, IsEndingOf, TellsScriptFault}
 
 -- what holds of the bytes that were read holds of those that were left
-of_left : (P : List ℕ → Type 0) (text : List ℕ) (left : Option (List ℕ)) → IfSome left (λ xs. text ≡ xs) → P text → IfSome left P
+pub of_left : (P : List ℕ → Type 0) (text : List ℕ) (left : Option (List ℕ)) → IfSome left (λ xs. text ≡ xs) → P text → IfSome left P
 of_left P text None same p = tt
 of_left P text (Some xs) same p = subst P same p
 
@@ -48,6 +48,9 @@ long_has_cause old new text ending.Unbuilt all long tells = absurd tells
 long_has_cause old new text (ending.Done out) all long tells = absurd tells
 long_has_cause old new text (ending.ConfigFault out) all long tells = absurd tells
 long_has_cause old new text (ending.Overrun out) all long tells = absurd tells
+long_has_cause old new text ending.Holds all long tells = absurd tells
+long_has_cause old new text (ending.TranscriptFault out) all long tells = absurd tells
+long_has_cause old new text (ending.Broken out) all long tells = absurd tells
 
 -- ---- one that isn't
 
@@ -79,4 +82,7 @@ replay_has_cause old new text (ending.Overrun out) all short (turns, over, is) =
   record { command = refl; ended = (all.ended short).0; same = all.same; bytes = text; read = (all.ended short).1; overruns = over },
   is,
 )
+replay_has_cause old new text ending.Holds all short r = absurd r
+replay_has_cause old new text (ending.TranscriptFault out) all short r = absurd r
+replay_has_cause old new text (ending.Broken out) all short r = absurd r
 replay_has_cause old new text ending.NoMemory all short r = tt

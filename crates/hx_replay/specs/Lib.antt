@@ -1,2 +1,5 @@
 pub mod Commands
+pub mod Texts
+pub mod Reads
+pub mod Checks
 pub mod Endings

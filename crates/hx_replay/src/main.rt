@@ -1,11 +1,13 @@
 //! The program: it runs a scripted case over links in memory and prints what each connection and session did.
 #![tactic(auto)]
 
+mod check;
 mod command;
 mod ending;
 mod run;
 #[cfg(test)]
 mod tests;
+mod texts;
 
 pub use command::{Command, command_of};
 pub use ending::Ending;

@@ -1,52 +1,26 @@
 //! A run of the program.
-ghost use Rattle.std.specs.Prelude.{◌≡◌, ◌⊎◌, ◌++◌, ◌∷◌, [], codes, decimal, IfOk, OnOk};
+ghost use Rattle.std.specs.Prelude.{◌≡◌, ◌⊎◌, ◌∷◌, [], codes};
 ghost use Rattle.hx_base.specs.Counts.{Rose};
 ghost use Rattle.hx_link.specs.Whole.{WritesAll};
 ghost use Rattle.hx_replay.specs.Commands.{words_of, NoCommand};
-ghost use Rattle.hx_replay.specs.Endings.{HasCause, IsRun, IsDone, IsRefused, IsBroken, IsOverrun, IsUnbuilt, usage_text, unbuilt_text, fault_text, overrun_text, IsEndingOf, TellsFault, TellsScriptFault, TellsTurns};
+ghost use Rattle.hx_replay.specs.Texts.{usage_text, unbuilt_text};
+ghost use Rattle.hx_replay.specs.Endings.{HasCause, IsRun, IsDone, IsRefused, IsFaulty, IsOverrun, IsBroken, IsUnbuilt, IsEndingOf, TellsFault, TellsScriptFault, TellsTurns};
 
+use crate::check::check_source;
 use crate::command::{Command, command_of};
 use crate::ending::{Ending, status, text};
-use hx_base::NoMemory;
+use crate::texts::{numbers_line, turns_line};
 use hx_link::{ReadFault, Sink, Source, read_all, write_all};
 use hx_replay_parts::{MOST_SCRIPT, Replay, replay_text};
-use itoa::Buffer;
 use std::alloc::Global;
 
 /// The rule of a script that is too long.
 const TOO_LONG: u8 = 10;
 
-fn put(out: &mut Vec<u8>, text: &[u8]) -> Result<(), NoMemory>
-    ensures { OnOk result (out.new.items ≡ out.old.items ++ text.now) }
-{
-    out.extend_from_slice(text)?;
-    Ok(())
-}
-
-fn put_number(out: &mut Vec<u8>, n: u64) -> Result<(), NoMemory>
-    ensures { OnOk result (out.new.items ≡ out.old.items ++ decimal n) }
-{
-    let mut buffer = Buffer::new();
-    put(out, buffer.format(n).as_bytes())
-}
-
-/// The line of a first fault behind this word.
-fn fault_line(alloc: Global, word: &[u8], line: u32, rule: u8) -> Result<Vec<u8>, NoMemory>
-    ensures { IfOk result (λ text. text.items ≡ fault_text word.now line rule) }
-{
-    let mut out = Vec::new(alloc);
-    put(&mut out, word)?;
-    put_number(&mut out, u64::from(line))?;
-    put(&mut out, b" ")?;
-    put_number(&mut out, u64::from(rule))?;
-    put(&mut out, b"\n")?;
-    Ok(out)
-}
-
 fn config_fault(alloc: Global, line: u32, rule: u8) -> Ending
     ensures { TellsFault line rule result }
 {
-    match fault_line(alloc, b"config ", line, rule) {
+    match numbers_line(alloc, b"config ", u64::from(line), u64::from(rule)) {
         Ok(text) => Ending::ConfigFault(text),
         Err(_) => Ending::NoMemory,
     }
@@ -55,21 +29,10 @@ fn config_fault(alloc: Global, line: u32, rule: u8) -> Ending
 fn script_fault(alloc: Global, line: u32, rule: u8) -> Ending
     ensures { TellsScriptFault line rule result }
 {
-    match fault_line(alloc, b"script ", line, rule) {
+    match numbers_line(alloc, b"script ", u64::from(line), u64::from(rule)) {
         Ok(text) => Ending::ScriptFault(text),
         Err(_) => Ending::NoMemory,
     }
-}
-
-/// The line of a replay that made as many turns as may be.
-fn turns_line(alloc: Global, turns: u64) -> Result<Vec<u8>, NoMemory>
-    ensures { IfOk result (λ text. text.items ≡ overrun_text turns) }
-{
-    let mut out = Vec::new(alloc);
-    put(&mut out, b"overrun ")?;
-    put_number(&mut out, turns)?;
-    put(&mut out, b"\n")?;
-    Ok(out)
 }
 
 fn overrun(alloc: Global, turns: u64) -> Ending
@@ -116,15 +79,16 @@ fn run<S: Source>(alloc: Global, words: &[String], source: &mut S) -> Ending
     match command_of(words) {
         None => Ending::Usage,
         Some(Command::Replay) => replay_source(alloc, source),
-        Some(Command::Check) | Some(Command::Drill) => Ending::Unbuilt,
+        Some(Command::Check) => check_source(alloc, source),
+        Some(Command::Drill) => Ending::Unbuilt,
     }
 }
 
 /// The program: it does what the words ask for, and answers the status.
 ///
-/// 0 a transcript was printed; 1 the words are no command; 2 the source failed; 3 the sink failed; 4 the script's
-/// configuration has a fault; 5 the script has one; 6 as many turns were made as may be; 8 what is asked for isn't built yet;
-/// 9 want of memory.
+/// 0 a transcript was printed, or the one that was read holds; 1 the words are no command; 2 the source failed; 3 the sink
+/// failed; 4 the script's configuration has a fault; 5 the script or the transcript has one; 6 as many turns were made as may
+/// be; 7 the transcript breaks a rule; 8 what is asked for isn't built yet; 9 want of memory.
 pub fn replay_main<R, S: Source, K: Sink>(
     rt: &R,
     alloc: Global,
@@ -141,15 +105,17 @@ pub fn replay_main<R, S: Source, K: Sink>(
     ensures sink { result ≡ 3 → Rose (K.state sink.old).faults (K.state sink.new).faults }
     ensures config { result ≡ 4
         → IsRefused (words_of words.now) (S.state source.old) (S.state source.new) (K.state sink.old) (K.state sink.new) }
-    ensures script { result ≡ 5
-        → IsBroken (words_of words.now) (S.state source.old) (S.state source.new) (K.state sink.old) (K.state sink.new) }
+    ensures faulty { result ≡ 5
+        → IsFaulty (words_of words.now) (S.state source.old) (S.state source.new) (K.state sink.old) (K.state sink.new) }
     ensures overrun { result ≡ 6
         → IsOverrun (words_of words.now) (S.state source.old) (S.state source.new) (K.state sink.old) (K.state sink.new) }
+    ensures broken { result ≡ 7
+        → IsBroken (words_of words.now) (S.state source.old) (S.state source.new) (K.state sink.old) (K.state sink.new) }
     ensures unbuilt { result ≡ 8
         → IsUnbuilt (words_of words.now) (S.state source.old) (S.state source.new)
         × WritesAll (K.state sink.old) (K.state sink.new) unbuilt_text }
     ensures known { (result ≡ 0) ⊎ (result ≡ 1) ⊎ (result ≡ 2) ⊎ (result ≡ 3) ⊎ (result ≡ 4) ⊎ (result ≡ 5)
-        ⊎ (result ≡ 6) ⊎ (result ≡ 8) ⊎ (result ≡ 9) }
+        ⊎ (result ≡ 6) ⊎ (result ≡ 7) ⊎ (result ≡ 8) ⊎ (result ≡ 9) }
 {
     let _rt = rt;
     let ending = run(alloc, words, source);
