@@ -1,6 +1,7 @@
 -- What is found of a transcript is found of the text that spells it.
 use Rattle.std.proofs.Common.{◌≡◌, ℕ, ◌≤◌, List, length, Result, Ok, subst}
 use Rattle.hx_script.specs.declared.transcript.Transcript.{Transcript}
+use Rattle.hx_script.specs.Numbers.{HasNumbers}
 use Rattle.hx_script.specs.Printed.{Spells}
 use Rattle.hx_script_parts.specs.declared.fault.TextFault.TheVariants as text
 use Rattle.hx_transcripts.specs.declared.fault.Flaw.{Flaw}
@@ -12,10 +13,10 @@ use Rattle.hx_check_text.specs.declared.check.Checked.{Checked}
 use Rattle.hx_check_text.specs.declared.check.Checked.TheVariants as checked
 use Rattle.hx_check_text.specs.Checked.{IsJudged, IsFault, IsChecked}
 
-pub spelled : (bytes : List ℕ) (t : Transcript) (c : Checked) → Spells bytes t → length bytes ≤ longest_text → IsJudged t c → IsChecked bytes c
-spelled bytes t checked.Holds is short judged = (t, is, short, judged)
-spelled bytes t (checked.Broken rule line) is short judged = (t, is, short, judged)
-spelled bytes t (checked.Fault line rule) is short judged = absurd judged
+pub spelled : (bytes : List ℕ) (t : Transcript) (c : Checked) → HasNumbers t → Spells bytes t → length bytes ≤ longest_text → IsJudged t c → IsChecked bytes c
+spelled bytes t checked.Holds numbers is short judged = record { transcript = t; numbers = numbers; spells = is; short = short; judged = judged }
+spelled bytes t (checked.Broken rule line) numbers is short judged = record { transcript = t; numbers = numbers; spells = is; short = short; judged = judged }
+spelled bytes t (checked.Fault line rule) numbers is short judged = absurd judged
 
 -- what is read has no fault
 no_fault : (line rule : ℕ) (r : Result Parts Flaw) (p : Parts) → r ≡ Ok p → IsFaultOf (text.At line rule) r → ⊥

@@ -3,6 +3,7 @@ use Rattle.std.specs.Prelude.{◌≡◌, ℕ, ◌≤◌, List, length}
 use Rattle.hx_check.specs.Broken.{IsUnbroken, BreaksAt}
 use Rattle.hx_check.specs.Lines.{told_line}
 use Rattle.hx_script.specs.declared.transcript.Transcript.{Transcript}
+use Rattle.hx_script.specs.Numbers.{HasNumbers}
 use Rattle.hx_script.specs.Printed.{Spells}
 use Rattle.hx_script_parts.specs.declared.fault.TextFault.TheVariants as text
 use Rattle.hx_transcripts.specs.Faults.{IsFaultOf}
@@ -17,9 +18,13 @@ IsJudged t checked.Holds = IsUnbroken t
 IsJudged t (checked.Broken rule line) = (at : ℕ) × BreaksAt t at rule × (line ≡ told_line at)
 IsJudged t (checked.Fault line rule) = ⊥
 
--- the text spells a transcript, of which this was found
-abbrev pub SpellsJudged : List ℕ → Checked → Type 0
-SpellsJudged bytes c = (t : Transcript) × Spells bytes t × (length bytes ≤ longest_text) × IsJudged t c
+-- the text spells a transcript, of which this was found; no text spells two whose numbers fit
+pub record SpellsJudged (bytes : List ℕ) (c : Checked) : Type 0 where
+  pub transcript : Transcript
+  pub numbers : HasNumbers transcript
+  pub spells : Spells bytes transcript
+  pub short : length bytes ≤ longest_text
+  pub judged : IsJudged transcript c
 
 -- the fault is the text's first one, and the text spells no transcript within the limit that a program can have
 pub record IsFault (bytes : List ℕ) (line rule : ℕ) : Type 0 where

@@ -1,10 +1,11 @@
 //! A text is read, and what it spells is judged.
 ghost use Rattle.std.specs.Prelude.{◌≡◌, IfOk};
+ghost use Rattle.hx_script.specs.Numbers.{HasNumbers};
 ghost use Rattle.hx_check_text.specs.Checked.{IsJudged, IsChecked};
 
 use hx_base::NoMemory;
 use hx_check::{Broken, check_transcript};
-use hx_script::{TextFault, Transcript};
+use hx_script::{TextFault, Transcript, numbers_fit};
 use hx_transcripts::read_transcript;
 use std::alloc::Global;
 
@@ -30,8 +31,10 @@ pub enum Checked {
 }
 
 fn judged(t: &Transcript) -> Checked
-    ensures { IsJudged t.now result }
+    ensures judged { IsJudged t.now result }
+    ensures numbers { HasNumbers t.now }
 {
+    numbers_fit(t);
     match check_transcript(t) {
         None => Checked::Holds,
         Some(Broken { rule, line }) => Checked::Broken { rule, line },

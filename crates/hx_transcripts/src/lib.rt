@@ -2,6 +2,7 @@
 #![tactic(auto)]
 
 mod fault;
+mod fits;
 mod form;
 mod laws;
 mod lines;
@@ -12,5 +13,6 @@ mod records;
 mod servers;
 mod sums;
 
-pub use laws::printed_is_read_back;
+pub use fits::transcript_fits;
+pub use laws::{is_read_back, printed_is_read_back};
 pub use read::read_transcript;
