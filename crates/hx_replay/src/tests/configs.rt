@@ -49,29 +49,33 @@ fn the_first_fault_of_a_configuration_is_told(rt: HostRuntime) -> Result<(), Fai
 fn a_text_that_does_not_begin_as_a_script_has_no_configuration(
     rt: HostRuntime,
 ) -> Result<(), Fail> {
-    for script in [
-        "hx-script 1\nconfig 0",
-        "hx-script 1\nconfig 0\n",
+    for (script, told) in [
         // Too few lines.
-        "hx-script 1\nconfig 1",
-        "hx-script 1\nconfig 1\n",
-        "hx-script 1\nconfig 3\nlisten web\n  http-reuse sometimes\n",
-        "hx-script 1\nconfig 1000000000000\nbad\n",
+        ("hx-script 1\nconfig 1", "script 2 2\n"),
+        ("hx-script 1\nconfig 1\n", "script 2 2\n"),
+        (
+            "hx-script 1\nconfig 3\nlisten web\n  http-reuse sometimes\n",
+            "script 2 2\n",
+        ),
+        ("hx-script 1\nconfig 1000000000000\nbad\n", "script 2 2\n"),
         // No number that a script writes.
-        "hx-script 1\nconfig 01\nbad\n",
-        "hx-script 1\nconfig +1\nbad\n",
-        "hx-script 1\nconfig \nbad\n",
-        "hx-script 1\nconfig 1000000000001\nbad\n",
-        "hx-script 1\nconfig 99999999999999999999999\nbad\n",
-        "hx-script 1\nconfig 1 \nbad\n",
+        ("hx-script 1\nconfig 01\nbad\n", "script 2 3\n"),
+        ("hx-script 1\nconfig +1\nbad\n", "script 2 3\n"),
+        ("hx-script 1\nconfig \nbad\n", "script 2 3\n"),
+        ("hx-script 1\nconfig 1000000000001\nbad\n", "script 2 3\n"),
+        (
+            "hx-script 1\nconfig 99999999999999999999999\nbad\n",
+            "script 2 3\n",
+        ),
+        ("hx-script 1\nconfig 1 \nbad\n", "script 2 2\n"),
         // Other first lines.
-        "hx-script 1\r\nconfig 1\nbad\n",
-        "hx-script 2\nconfig 1\nbad\n",
-        "hx-script 1\n\nconfig 1\nbad\n",
+        ("hx-script 1\r\nconfig 1\nbad\n", "script 1 1\n"),
+        ("hx-script 2\nconfig 1\nbad\n", "script 1 1\n"),
+        ("hx-script 1\n\nconfig 1\nbad\n", "script 2 2\n"),
     ] {
         let ran = run(&rt, "replay", script, NEVER)?;
-        assert_eq!(rt; (script, ran.status), (script, 8));
-        assert_eq!(rt; ran.text.as_slice(), "unbuilt\n".as_bytes());
+        assert_eq!(rt; (script, ran.status), (script, 5));
+        assert_eq!(rt; ran.text.as_slice(), told.as_bytes());
     }
     Ok(())
 }
@@ -125,22 +129,23 @@ fn changed(alloc: Global, old: &str, new: &str) -> Result<String, Fail> {
 }
 
 #[test]
-fn other_configurations_and_names_are_not_built(rt: HostRuntime) -> Result<(), Fail> {
+fn other_configurations_are_replayed_and_other_names_are_faults(rt: HostRuntime) -> Result<(), Fail> {
     let ran = run(&rt, "replay", USUAL, NEVER)?;
-    assert_eq!(rt; ran.status, 8);
+    // Several threads.
+    assert_eq!(rt; (ran.status, ran.text.as_slice()), (5, "script 2 7\n".as_bytes()));
     for (old, new, status) in [
         ("s1 127", "s1 127", 0),
         ("config 4", "config 3", 4),
         ("config 4\n", "config 5\nglobal\n", 0),
-        ("config 4\n", "config 6\nglobal\nnbthread 2\n", 8),
-        ("config 4\n", "config 5\nbackend other\n", 8),
-        ("client web", "client webs", 8),
-        ("client web", "client we", 8),
-        ("client web 0 0", "client web 0 1", 8),
-        ("client web 0 0", "client web 1 0", 8),
-        ("server web/s1", "server web/s2", 8),
-        ("server web/s1", "server wob/s1", 8),
-        ("server web/s1", "server web/s1 refuse", 8),
+        ("config 4\n", "config 6\nglobal\nnbthread 2\n", 5),
+        ("config 4\n", "config 5\nbackend other\n", 0),
+        ("client web", "client webs", 5),
+        ("client web", "client we", 5),
+        ("client web 0 0", "client web 0 1", 0),
+        ("client web 0 0", "client web 1 0", 5),
+        ("server web/s1", "server web/s2", 5),
+        ("server web/s1", "server wob/s1", 5),
+        ("server web/s1", "server web/s1 refuse", 5),
     ] {
         let script = changed(rt.alloc(), old, new)?;
         let ran = run(&rt, "replay", script.as_str(), NEVER)?;

@@ -391,12 +391,12 @@ fn head_of(
 }
 
 #[test]
-fn heads_pass_up_to_their_limits(rt: HostRuntime) -> Result<(), Fail> {
+fn heads_up_to_their_limits_and_past_them_are_replayed(rt: HostRuntime) -> Result<(), Fail> {
     for (len, fields, status) in [
         (16_384, 1, 0),
-        (16_385, 1, 8),
+        (16_385, 1, 0),
         (2_000, 100, 0),
-        (2_000, 101, 8),
+        (2_000, 101, 0),
     ] {
         let ask = head_of(rt.alloc(), "GET /", " HTTP/1.1\r\nHost: h\r\n", len, fields)?;
         let answer = head_of(
@@ -427,7 +427,7 @@ fn heads_pass_up_to_their_limits(rt: HostRuntime) -> Result<(), Fail> {
 }
 
 /// Scripts that are no exchange of a whole request and a whole answer within the limits.
-const UNBUILT: [Exchange<'static>; 9] = [
+const NOT_WHOLE: [Exchange<'static>; 9] = [
     // The answer is a byte short, has one too many, or changes the protocol.
     Exchange {
         answer: "HTTP/1.1 200 OK\r\nContent-Length: 3\r\n\r\nhi",
@@ -471,13 +471,13 @@ const UNBUILT: [Exchange<'static>; 9] = [
 ];
 
 #[test]
-fn what_does_not_pass_whole_is_unbuilt(rt: HostRuntime) -> Result<(), Fail> {
-    for exchange in UNBUILT {
+fn what_does_not_pass_whole_is_replayed(rt: HostRuntime) -> Result<(), Fail> {
+    for exchange in NOT_WHOLE {
         let script = script_of(rt.alloc(), exchange, WHOLE)?;
         let ran = run(&rt, "replay", script.as_str(), NEVER)?;
         assert_eq!(rt;
             (exchange.ask, exchange.answer, ran.status),
-            (exchange.ask, exchange.answer, 8)
+            (exchange.ask, exchange.answer, 0)
         );
     }
     Ok(())
