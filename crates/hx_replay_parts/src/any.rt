@@ -28,6 +28,7 @@ fn most_turns(bytes: &[u8], script: &Script) -> u64
 }
 
 /// The replay of a script, which may make so many turns.
+#[tactic(auto, using(crate::proofs::PlayLemmas::over_ran, crate::proofs::PlayLemmas::tells_of))]
 fn replay_script(alloc: Global, script: Script, most: u64) -> Result<Replay, NoMemory>
     ensures { IfOk result (IsRunOf (meaning script) most) }
 {
@@ -42,6 +43,7 @@ fn replay_script(alloc: Global, script: Script, most: u64) -> Result<Replay, NoM
 }
 
 /// What the bytes are replayed to, whether or not they are a script of one exchange.
+#[tactic(auto, using(crate::proofs::PlayLemmas::fault_at, crate::proofs::PlayLemmas::threads_fault, crate::proofs::PlayLemmas::runs_play))]
 pub(crate) fn replay_any(alloc: Global, bytes: &[u8]) -> Result<Replay, NoMemory>
     ensures { IfOk result (IsPlayOf bytes.now) }
 {
