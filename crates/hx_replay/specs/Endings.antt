@@ -4,7 +4,7 @@ use Rattle.hx_base.specs.Counts.{Rose}
 use Rattle.hx_link.specs.Told.{SourceState, SinkState}
 use Rattle.hx_link.specs.Whole.{ReadsFront, WritesAll, WritesPart}
 use Rattle.hx_form.specs.Forms.{HasConfigFault, IsUnbuiltScript}
-use Rattle.hx_replay_parts.specs.Plays.{Plays, HasScriptFault, Overruns}
+use Rattle.hx_plays.specs.Plays.{Plays, HasScriptFault, Overruns}
 use Rattle.hx_replay_parts.specs.Replays.{most_script, Replays}
 use Rattle.hx_replay.specs.Commands.{Means, NoCommand}
 use Rattle.hx_replay.specs.declared.command.Command.TheVariants.{Replay, Check, Drill}

@@ -25,11 +25,9 @@ use Rattle.hx_told.specs.Servers.{named_of, named_servers, parts_of}
 use Rattle.hx_told.specs.declared.servers.Named.{Named}
 use Rattle.std.specs.Prelude.{IfOk}
 use Rattle.hx_base.specs.declared.numbers.NoMemory.{NoMemory}
-use Rattle.hx_form.specs.Forms.{IsUnbuiltScript}
-use Rattle.hx_replay_parts.specs.declared.replay.Replay.{Replay}
-use Rattle.hx_replay_parts.specs.declared.replay.Replay.TheVariants as replay
-use Rattle.hx_replay_parts.specs.Plays.{named_parts, TellsServers, HasScriptFault, most_turns, IsRunOf, IsPlayOf}
-use Rattle.hx_replay_parts.specs.Replays.{IsReplayOf}
+use Rattle.hx_plays.specs.declared.plays.Replay.{Replay}
+use Rattle.hx_plays.specs.declared.plays.Replay.TheVariants as replay
+use Rattle.hx_plays.specs.Plays.{named_parts, TellsServers, HasScriptFault, most_turns, IsRunOf, IsPlayOf}
 
 too_long : (text : List ℕ) → longest_text < length text → meaning_of text ≡ Err (flaw.Line 1 TooLong)
 unfolding meaning_of
@@ -68,17 +66,6 @@ over_count (s ∷ servers) (j ∷ seats) o = ap suc (over_count servers seats o.
 -- one seat a server: the parts have the servers' names and rules
 pub parts_named : (backs : List Back) (seats : List Journal) → length seats ≡ length (all_servers backs) → named_parts (parts_of (named_servers backs) seats) ≡ named_servers backs
 parts_named backs seats e = parts_are (named_servers backs) seats (e ∙ sym (names_count backs))
-
--- what isn't a script of one exchange is replayed as any script
-play_other : (bytes : List ℕ) (r : Replay) → IsUnbuiltScript bytes → IsPlayOf bytes r → IsReplayOf bytes r
-play_other bytes (replay.Text text) other p = inr (other, p)
-play_other bytes (replay.ConfigFault line rule) other p = p
-play_other bytes (replay.ScriptFault line rule) other p = p
-play_other bytes (replay.Overrun turns) other p = (other, p)
-
-pub plays_other : (bytes : List ℕ) (r : Result Replay NoMemory) → IsUnbuiltScript bytes → IfOk r (IsPlayOf bytes) → IfOk r (IsReplayOf bytes)
-plays_other bytes (Ok r) other p = play_other bytes r other p
-plays_other bytes (Err e) other p = tt
 
 -- the seats of a replay are over, as the teller asks it
 pub over_ran : (a b : Config) (seats : List Journal) → b ≡ a → AreOver (all_servers a.backs) seats → AreOver (all_servers b.backs) seats
