@@ -7,7 +7,7 @@ use Rattle.hx_script_parts.specs.Meaning.{Meaning, longest_text, meaning_of}
 use Rattle.hx_script_parts.specs.declared.fault.Flaw.{Flaw}
 use Rattle.hx_script_parts.specs.declared.fault.Flaw.TheVariants as flaw
 use Rattle.hx_script_parts.specs.declared.fault.Rule.TheVariants.{TooLong}
-use Rattle.hx_replay_parts.specs.Plays.{HasScriptFault}
+use Rattle.hx_plays.specs.Plays.{HasScriptFault}
 use Rattle.hx_replay_parts.specs.Replays.{most_script}
 use Rattle.hx_replay.specs.declared.ending.Ending.{Ending}
 use Rattle.hx_replay.specs.declared.ending.Ending.TheVariants as ending

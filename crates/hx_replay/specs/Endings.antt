@@ -6,7 +6,7 @@ use Rattle.hx_link.specs.Whole.{WritesAll, WritesPart}
 use Rattle.hx_check_text.specs.Checked.{IsFault, SpellsJudged}
 use Rattle.hx_check_text.specs.declared.check.Checked.TheVariants as checked
 use Rattle.hx_form.specs.Forms.{HasConfigFault, IsUnbuiltScript}
-use Rattle.hx_replay_parts.specs.Plays.{Plays, HasScriptFault, Overruns}
+use Rattle.hx_plays.specs.Plays.{Plays, HasScriptFault, Overruns}
 use Rattle.hx_replay_parts.specs.Replays.{most_script, Replays}
 use Rattle.hx_replay.specs.Checks.{Judged, BreaksReading}
 use Rattle.hx_replay.specs.Commands.{Means, NoCommand}

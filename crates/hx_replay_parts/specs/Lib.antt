@@ -1,3 +1,2 @@
 pub mod ReplayParts
-pub mod Plays
 pub mod Replays

@@ -7,11 +7,11 @@ use Rattle.hx_form.specs.Forms.{IsReplayable, HasConfigFault, IsUnbuiltScript}
 use Rattle.hx_form.specs.Messages.{Messages}
 use Rattle.hx_telling.specs.OneExchange.{TellsExchange}
 use Rattle.hx_script.specs.TrueTranscript.{IsTrueTranscript}
-use Rattle.hx_replay_parts.specs.Plays.{Plays, HasScriptFault, Overruns}
+use Rattle.hx_plays.specs.Plays.{Plays, HasScriptFault, Overruns}
 use Rattle.hx_replay_parts.specs.declared.replay.One.{One}
 use Rattle.hx_replay_parts.specs.declared.replay.One.TheVariants as one
-use Rattle.hx_replay_parts.specs.declared.replay.Replay.{Replay}
-use Rattle.hx_replay_parts.specs.declared.replay.Replay.TheVariants as replay
+use Rattle.hx_plays.specs.declared.plays.Replay.{Replay}
+use Rattle.hx_plays.specs.declared.plays.Replay.TheVariants as replay
 
 -- the most bytes of a script
 abbrev pub most_script : ℕ

@@ -1,8 +1,8 @@
 //! Replays of scripts: private parts of the program.
 #![tactic(auto)]
 
-mod any;
 mod connection;
 mod replay;
 
-pub use replay::{MOST_SCRIPT, Replay, faults_exclude, replay_text};
+pub use hx_plays::Replay;
+pub use replay::{MOST_SCRIPT, faults_exclude, replay_text};

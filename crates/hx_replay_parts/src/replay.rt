@@ -11,31 +11,18 @@ ghost use Rattle.hx_exchange.specs.Exchanges.{CarryNone, IsExchanged};
 ghost use Rattle.hx_replay_parts.specs.ReplayParts.{IsFirst, IsOpened, TellsPlans};
 ghost use Rattle.hx_replay_parts.specs.Replays.{IsOneOf, IsReplayOf, FaultsExclude};
 
-use crate::any::replay_any;
 use crate::connection::{FirstSeat, close, dial_first, link_of, net_of};
 use hx_base::NoMemory;
 use hx_exchange::{Exchanged, exchange};
 use hx_form::{Case, Form, Route, read_form};
 use hx_link::MemoryLink;
+use hx_plays::{Replay, replay_any};
 use hx_script::{Transcript, print_transcript};
 use hx_telling::{Run, all_marks, all_totals, exchange_is_true, first_seat, open_first, tell};
 use std::alloc::Global;
 
 /// The most bytes of a script.
 pub const MOST_SCRIPT: usize = 1_048_576;
-
-/// What a text is replayed to.
-#[derive(Drop)]
-pub enum Replay {
-    /// The text of the transcript.
-    Text(Vec<u8>),
-    /// The first fault of the script's configuration: its line there, counted from 1, and the number of its rule.
-    ConfigFault { line: u32, rule: u8 },
-    /// The first fault of the script: its line, counted from 1, and the number of its rule.
-    ScriptFault { line: u32, rule: u8 },
-    /// So many turns were made, as many as may be.
-    Overrun { turns: u64 },
-}
 
 /// What is told of an exchange that passed on the first connection.
 fn tell_exchange(
@@ -114,7 +101,7 @@ fn replay_one(alloc: Global, bytes: &[u8]) -> Result<One, NoMemory>
 ///
 /// # Errors
 /// `NoMemory` for want of memory.
-#[tactic(auto, using(crate::proofs::PlayLemmas::plays_other))]
+#[tactic(auto, using(crate::proofs::AnyLemmas::plays_other))]
 pub fn replay_text(alloc: Global, bytes: &[u8]) -> Result<Replay, NoMemory>
     ensures { IfOk result (IsReplayOf bytes.now) }
 {

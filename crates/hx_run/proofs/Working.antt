@@ -253,7 +253,7 @@ is_there c k (at, Ready server) l = order_there c server k l
 -- ---- a replay behind a call of its worker
 
 pub ordered_run : (what : Order) (r : RunNow) (w w' : WorkerNow) (net : MemoryNetNow) (count : ℕ) → IsRun r → IsWorking w → Each (HasRoom 2049) w.journals
-    → Cares (OrdersAt what) w w' r.net.state net.state count → HasSeats w' → IsRun (run_now w' net r.records r.turns r.most)
+    → Cares (OrdersAt what) w w' r.net.state net.state count → HasSeats w' → IsRun (run_now w' net r.records r.turns r.most r.last)
 ordered_run what r w w' net count run k room s h = record {
   working = order_working what w w' r.net.state net.state count k room s h;
   loop = s.cares.buries.loop ∙ run.loop;
@@ -261,7 +261,7 @@ ordered_run what r w w' net count run k room s h = record {
 }
 
 pub ticked_run : (now : Millis) (r : RunNow) (w w' : WorkerNow) (net : MemoryNetNow) (count : ℕ) → IsRun r → IsWorking w → Each (HasRoom 2049) w.journals
-    → Cares (TicksAt now) w w' r.net.state net.state count → HasSeats w' → IsRun (run_now w' net r.records r.turns r.most)
+    → Cares (TicksAt now) w w' r.net.state net.state count → HasSeats w' → IsRun (run_now w' net r.records r.turns r.most r.last)
 ticked_run now r w w' net count run k room s h = record {
   working = tick_working now w w' r.net.state net.state count k room s h;
   loop = s.cares.buries.loop ∙ run.loop;
@@ -269,7 +269,7 @@ ticked_run now r w w' net count run k room s h = record {
 }
 
 pub stepped_run : (r : RunNow) (w w' : WorkerNow) (net : MemoryNetNow) (n : SessionNo) (x : Step) (records : List Told) → IsRun r → IsWorking w → Each (HasRoom 4) w.journals
-    → Steps w w' r.net.state net.state n x → HasSeats w' → IsRun (run_now w' net records r.turns r.most)
+    → Steps w w' r.net.state net.state n x → HasSeats w' → IsRun (run_now w' net records r.turns r.most r.last)
 stepped_run r w w' net n x records run k room s h = record {
   working = step_working w w' r.net.state net.state n x k room s h;
   loop = steps_loop w w' r.net.state net.state n x s ∙ run.loop;
@@ -277,7 +277,7 @@ stepped_run r w w' net n x records run k room s h = record {
 }
 
 pub stopped_run : (r : RunNow) (w w' : WorkerNow) (net : MemoryNetNow) (o : Option Stopped) (x : Stopped) (records : List Told) → IsRun r → IsWorking w → Each (HasRoom 4) w.journals
-    → StopsNext w w' r.net.state net.state o → o ≡ Some x → HasSeats w' → IsRun (run_now w' net records r.turns r.most)
+    → StopsNext w w' r.net.state net.state o → o ≡ Some x → HasSeats w' → IsRun (run_now w' net records r.turns r.most r.last)
 stopped_run r w w' net o x records run k room s is h =
     let one : StopsOne w w' r.net.state net.state x = subst (StopsNext w w' r.net.state net.state) is s in
     record {

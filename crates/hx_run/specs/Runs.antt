@@ -15,20 +15,30 @@ use Rattle.hx_record.specs.declared.served.Served.{Served}
 use Rattle.hx_record.specs.declared.served.Told.{Told}
 use Rattle.hx_record.specs.declared.served.Told.TheVariants as told
 use Rattle.hx_pool.specs.SeatView.{History}
+use Rattle.hx_worker.specs.declared.answers.Stopped.{Stopped}
+use Rattle.hx_worker.specs.Stops.{StopsOne}
 use Rattle.hx_worker.specs.Workers.{WorkerNow, HasSeats, Each}
 use Rattle.hx_run.specs.Overs.{AreAlone, IsKept}
 
--- the worker and its net, what its sessions told, how many turns were made, and how many may be
+-- the worker and its net, what its sessions told, how many turns were made, how many may be, and how many the last round made
 pub record RunNow : Type 0 where
   pub worker : WorkerNow
   pub net : MemoryNetNow
   pub records : List Told
   pub turns : ℕ
   pub most : ℕ
+  pub last : ℕ
 
 -- a replay of these
-abbrev pub run_now : WorkerNow → MemoryNetNow → List Told → ℕ → ℕ → RunNow
-run_now worker net records turns most = record { worker = worker; net = net; records = records; turns = turns; most = most }
+abbrev pub run_now : WorkerNow → MemoryNetNow → List Told → ℕ → ℕ → ℕ → RunNow
+run_now worker net records turns most last = record {
+  worker = worker;
+  net = net;
+  records = records;
+  turns = turns;
+  most = most;
+  last = last;
+}
 
 -- what always holds of its worker: it is that of the first thread, and its configuration is within its limits; the seats hold just what the sessions have, each in one
 -- history, alone at its server's board; and each journal is whole from the beginning
@@ -76,3 +86,12 @@ CarriedOut what old new = (sweeps : List Sweep) × EachSweep (OrdersAt what) 0 o
 -- the caretaker made its round on each server
 abbrev pub Ticked : Millis → List History → List History → Type 0
 Ticked now old new = (sweeps : List Sweep) × EachSweep (TicksAt now) 0 old new sweeps
+
+-- the session of the least number was stopped, and what that told stands behind the records so far
+pub record StopsFirst (a b : RunNow) : Type 0 where
+  -- the worker, whose journals may have got room before
+  pub ready : WorkerNow
+  pub roomier : IsRoomier a.worker ready
+  pub stopped : Stopped
+  pub stops : StopsOne ready b.worker a.net.state b.net.state stopped
+  pub told : b.records ≡ a.records ++ told_of stopped.served (Some stopped.left)

@@ -11,7 +11,7 @@ ghost use Rattle.hx_connecting.specs.Journals.{room_of};
 ghost use Rattle.hx_pool.specs.Journal.{Journal, journal_from};
 ghost use Rattle.hx_run.specs.Overs.{HasRoom, ClosedBelow};
 ghost use Rattle.hx_run.specs.Rooms.{RoomBelow};
-ghost use Rattle.hx_run.specs.Runs.{GoesOn, IsRun, IsWorking, IsRoomier, CarriedOut, Ticked, told_of};
+ghost use Rattle.hx_run.specs.Runs.{GoesOn, IsRun, IsWorking, IsRoomier, CarriedOut, Ticked, StopsFirst, told_of};
 ghost use Rattle.hx_run.specs.declared.running.Halt.TheVariants as halt;
 
 use crate::seats::{RunSeat, seats_of};
@@ -122,6 +122,8 @@ pub struct Running<'a> {
     turns: u64,
     /// As many turns as may be made.
     most: u64,
+    /// How many turns the last round made.
+    last: u64,
 }
 
 impl<'a> Model for Running<'a> {
@@ -129,9 +131,9 @@ impl<'a> Model for Running<'a> {
 
     ghost Value = { RunNow };
 
-    ghost view = { λ r. run_now r.worker r.net r.records.items r.turns r.most };
+    ghost view = { λ r. run_now r.worker r.net r.records.items r.turns r.most r.last };
 
-    ghost invariant = { λ r. IsRun (run_now r.worker r.net r.records.items r.turns r.most) };
+    ghost invariant = { λ r. IsRun (run_now r.worker r.net r.records.items r.turns r.most r.last) };
 }
 
 impl<'a> Running<'a> {
@@ -161,6 +163,7 @@ impl<'a> Running<'a> {
             records: Vec::new(alloc),
             turns: 0,
             most,
+            last: 0,
         })
     }
 
@@ -284,6 +287,8 @@ impl<'a> Running<'a> {
     fn round(&mut self, now: Millis) -> Result<bool, Halt>
         ensures goes { GoesOn self.old self.new }
         ensures moved { result ≡ Ok true → self.old.turns < self.new.turns }
+        ensures last { OnOk result (self.old.turns + self.new.last ≡ self.new.turns) }
+        ensures still { result ≡ Ok false → self.new.last ≡ 0 }
         ensures within { self.new.turns ≤ self.new.most }
         ensures overrun { result ≡ Err halt.Overrun → self.new.turns ≡ self.new.most }
     {
@@ -293,7 +298,8 @@ impl<'a> Running<'a> {
             self.go_on(n, now)?;
             after = n;
         }
-        Ok(before < self.turns)
+        self.last = self.turns - before;
+        Ok(self.last > 0)
     }
 
     /// Rounds, until nothing moves in one.
@@ -303,6 +309,7 @@ impl<'a> Running<'a> {
     pub fn rounds(&mut self, now: Millis) -> Result<(), Halt>
         ensures goes { GoesOn self.old self.new }
         ensures overrun { result ≡ Err halt.Overrun → self.new.turns ≡ self.new.most }
+        ensures still { OnOk result (self.new.last ≡ 0) }
     {
         while self.round(now)? {}
         Ok(())
@@ -313,6 +320,7 @@ impl<'a> Running<'a> {
         ensures goes { GoesOn self.old self.new }
         ensures fewer { result ≡ Ok true → length self.new.worker.sessions < length self.old.worker.sessions }
         ensures none { result ≡ Ok false → self.new.worker.sessions ≡ [] }
+        ensures stops { result ≡ Ok true → StopsFirst self.old self.new }
     {
         make_room(&mut self.worker, STEP_MARKS)?;
         match self.worker.stop_next(&mut self.net) {

@@ -1,7 +1,6 @@
 -- What any script of one thread is replayed to.
 use Rattle.std.specs.Prelude.{◌≡◌, ℕ, ◌+◌, ◌*◌, ◌<◌, ◌⊎◌, List, map, length, Ok, Err}
 use Rattle.hx_config.specs.declared.parts.Back.{Back}
-use Rattle.hx_form.specs.Forms.{HasConfigFault}
 use Rattle.hx_script.specs.TrueTranscript.{AreTrueServers}
 use Rattle.hx_script.specs.Printed.{Spells}
 use Rattle.hx_script.specs.declared.transcript.ServerPart.{ServerPart}
@@ -13,8 +12,8 @@ use Rattle.hx_script_parts.specs.declared.fault.Rule.{Rule}
 use Rattle.hx_script_parts.specs.declared.fault.Rule.TheVariants.{BadWorker}
 use Rattle.hx_told.specs.Servers.{named_servers}
 use Rattle.hx_told.specs.declared.servers.Named.{Named}
-use Rattle.hx_replay_parts.specs.declared.replay.Replay.{Replay}
-use Rattle.hx_replay_parts.specs.declared.replay.Replay.TheVariants as replay
+use Rattle.hx_plays.specs.declared.plays.Replay.{Replay}
+use Rattle.hx_plays.specs.declared.plays.Replay.TheVariants as replay
 
 -- the names and the rules of a transcript's servers
 abbrev pub named_parts : List ServerPart → List Named
@@ -68,7 +67,7 @@ pub record Overruns (bytes : List ℕ) (turns : ℕ) : Type 0 where
 -- what any script is replayed to
 abbrev pub IsPlayOf : List ℕ → Replay → Type 0
 IsPlayOf bytes (replay.Text text) = Plays bytes text.items
-IsPlayOf bytes (replay.ConfigFault line rule) = HasConfigFault bytes line rule
+IsPlayOf bytes (replay.ConfigFault line rule) = meaning_of bytes ≡ Err (flaw.Config line rule)
 IsPlayOf bytes (replay.ScriptFault line rule) = HasScriptFault bytes line rule
 IsPlayOf bytes (replay.Overrun turns) = Overruns bytes turns
 

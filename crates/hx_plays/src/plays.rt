@@ -2,15 +2,27 @@
 ghost use Rattle.std.specs.Prelude.{◌≡◌, IfOk, Ok, length};
 ghost use Rattle.hx_script_parts.specs.Meaning.{meaning_of};
 ghost use Rattle.hx_script_parts.specs.Views.{meaning};
-ghost use Rattle.hx_replay_parts.specs.Plays.{IsPlayOf, IsRunOf, most_turns as turns_for};
+ghost use Rattle.hx_plays.specs.Plays.{IsPlayOf, IsRunOf, most_turns as turns_for};
 
-use crate::replay::Replay;
 use hx_base::NoMemory;
 use hx_run::{Halt, run_script};
 use hx_script::print_transcript;
 use hx_script_parts::{Script, TextFault, read_script};
 use hx_told::tell_run;
 use std::alloc::Global;
+
+/// What a text is replayed to.
+#[derive(Drop)]
+pub enum Replay {
+    /// The text of the transcript.
+    Text(Vec<u8>),
+    /// The first fault of the script's configuration: its line there, counted from 1, and the number of its rule.
+    ConfigFault { line: u32, rule: u8 },
+    /// The first fault of the script: its line, counted from 1, and the number of its rule.
+    ScriptFault { line: u32, rule: u8 },
+    /// So many turns were made, as many as may be.
+    Overrun { turns: u64 },
+}
 
 /// The line of a script that says how long its configuration is.
 const CONFIG_LINE: u32 = 2;
@@ -28,6 +40,7 @@ fn most_turns(bytes: &[u8], script: &Script) -> u64
 }
 
 /// The replay of a script, which may make so many turns.
+#[tactic(auto, using(crate::proofs::PlayLemmas::over_ran, crate::proofs::PlayLemmas::tells_of))]
 fn replay_script(alloc: Global, script: Script, most: u64) -> Result<Replay, NoMemory>
     ensures { IfOk result (IsRunOf (meaning script) most) }
 {
@@ -41,8 +54,12 @@ fn replay_script(alloc: Global, script: Script, most: u64) -> Result<Replay, NoM
     }
 }
 
-/// What the bytes are replayed to, whether or not they are a script of one exchange.
-pub(crate) fn replay_any(alloc: Global, bytes: &[u8]) -> Result<Replay, NoMemory>
+/// What the bytes are replayed to, as any script of one thread.
+///
+/// # Errors
+/// `NoMemory` for want of memory.
+#[tactic(auto, using(crate::proofs::PlayLemmas::fault_at, crate::proofs::PlayLemmas::threads_fault, crate::proofs::PlayLemmas::runs_play))]
+pub fn replay_any(alloc: Global, bytes: &[u8]) -> Result<Replay, NoMemory>
     ensures { IfOk result (IsPlayOf bytes.now) }
 {
     match read_script(alloc, bytes) {
