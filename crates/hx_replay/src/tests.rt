@@ -1,6 +1,7 @@
 //! Whole runs over a source and a sink in memory.
 ghost use Rattle.std.specs.Prelude.{◌≡◌, IfOk};
 
+mod checks;
 mod configs;
 mod framings;
 mod modes;
@@ -73,12 +74,17 @@ fn one(alloc: Global, n: u64) -> Result<Vec<u64>, Fail> {
 
 /// Runs the program with these words, parted by single spaces.
 fn run(rt: &HostRuntime, words: &str, script: &str, fails: Fails) -> Result<Outcome, Fail> {
+    run_bytes(rt, words, script.as_bytes(), fails)
+}
+
+/// The same over any bytes.
+fn run_bytes(rt: &HostRuntime, words: &str, bytes: &[u8], fails: Fails) -> Result<Outcome, Fail> {
     let alloc = rt.alloc();
     let mut all = Vec::new(alloc);
     for word in words.split(' ') {
         all.push(word.to_string(alloc)?)?;
     }
-    let mut source = MemorySource::new(script.as_bytes().to_vec(alloc)?, one(alloc, fails.read)?);
+    let mut source = MemorySource::new(bytes.to_vec(alloc)?, one(alloc, fails.read)?);
     let mut sink = MemorySink::new(alloc, ROOM, one(alloc, fails.write)?)?;
     let status = replay_main(rt, alloc, all.as_slice(), &mut source, &mut sink);
     Ok(Outcome {
@@ -123,7 +129,6 @@ fn words_that_are_no_command_get_the_usage_line(rt: HostRuntime) -> Result<(), F
 #[test]
 fn what_is_not_built_is_told(rt: HostRuntime) -> Result<(), Fail> {
     for (words, script) in [
-        ("check", SCRIPT),
         ("drill 7 4 10", ""),
         ("drill 0 1 1", ""),
         ("drill 1000000 16 100000", ""),
