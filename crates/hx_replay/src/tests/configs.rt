@@ -129,10 +129,15 @@ fn changed(alloc: Global, old: &str, new: &str) -> Result<String, Fail> {
 }
 
 #[test]
-fn other_configurations_are_replayed_and_other_names_are_faults(rt: HostRuntime) -> Result<(), Fail> {
+fn other_configurations_are_replayed_and_other_names_are_faults(
+    rt: HostRuntime,
+) -> Result<(), Fail> {
     let ran = run(&rt, "replay", USUAL, NEVER)?;
     // Several threads.
-    assert_eq!(rt; (ran.status, ran.text.as_slice()), (5, "script 2 7\n".as_bytes()));
+    assert_eq!(rt;
+        (ran.status, ran.text.as_slice()),
+        (5, "script 2 7\n".as_bytes())
+    );
     for (old, new, status) in [
         ("s1 127", "s1 127", 0),
         ("config 4", "config 3", 4),
