@@ -1,15 +1,12 @@
 -- The replay of any script.
 use Rattle.std.proofs.Common.{◌≡◌, ℕ, suc, ◌+◌, ◌<◌, ◌≤◌, List, [], ◌∷◌, ◌++◌, length, map, refl, sym, ap, ◌∙◌, subst, arith, lt-ltb, Result, Ok, Err, inl, inr}
-use Rattle.std.specs.List.{flat_map}
 use native.Mathlib.Decide.{dec_lt}
 use mathlib.Core.Logic.{dite}
-use Rattle.hx_config.specs.declared.parts.Back.{Back}
 use Rattle.hx_config.specs.declared.parts.Server.{Server}
 use Rattle.hx_config.specs.declared.config.Config.{Config}
 use Rattle.hx_pool.specs.Journal.{Journal}
 use Rattle.hx_script.specs.Printed.{Spells}
 use Rattle.hx_script.specs.TrueTranscript.{AreTrueServers}
-use Rattle.hx_script.specs.declared.transcript.ServerPart.{ServerPart}
 use Rattle.hx_script.specs.declared.transcript.Transcript.{Transcript}
 use Rattle.hx_script_parts.specs.Views.{meaning}
 use Rattle.hx_script_parts.specs.declared.script.Script.{Script}
@@ -21,13 +18,12 @@ use Rattle.hx_script_parts.specs.declared.fault.Flaw.TheVariants as flaw
 use Rattle.hx_script_parts.specs.declared.fault.Rule.TheVariants.{TooLong}
 use Rattle.hx_config.specs.Limits.{all_servers}
 use Rattle.hx_run.specs.Overs.{AreOver}
-use Rattle.hx_told.specs.Servers.{named_of, named_servers, parts_of}
-use Rattle.hx_told.specs.declared.servers.Named.{Named}
+use Rattle.hx_told.specs.Servers.{named_servers, parts_of}
 use Rattle.std.specs.Prelude.{IfOk}
 use Rattle.hx_base.specs.declared.numbers.NoMemory.{NoMemory}
 use Rattle.hx_plays.specs.declared.plays.Replay.{Replay}
 use Rattle.hx_plays.specs.declared.plays.Replay.TheVariants as replay
-use Rattle.hx_plays.specs.Plays.{named_parts, TellsServers, HasScriptFault, most_turns, IsRunOf, IsPlayOf}
+use Rattle.hx_plays.specs.Plays.{TellsServers, HasScriptFault, most_turns, IsRunOf, IsPlayOf}
 
 too_long : (text : List ℕ) → longest_text < length text → meaning_of text ≡ Err (flaw.Line 1 TooLong)
 unfolding meaning_of
@@ -39,33 +35,12 @@ read_is_short text m reads = dite (dec_lt longest_text (length text))
     (λ long. absurd (let both : ◌≡◌ {A = Result Meaning Flaw} (Ok m) (Err (flaw.Line 1 TooLong)) = sym reads ∙ too_long text long in cc))
     (λ short. omega (arith, short))
 
-parts_are : (names : List Named) (seats : List Journal) → length seats ≡ length names → named_parts (parts_of names seats) ≡ names
-parts_are [] seats e = refl
-parts_are (n ∷ names) [] e = absurd (omega (arith, e))
-parts_are (n ∷ names) (j ∷ seats) e = ap (λ (l : List Named). n ∷ l) (parts_are names seats (omega (arith, e)))
-
-count_more : (b : Back) (ss : List Server) (names : List Named) → length (map (named_of b) ss ++ names) ≡ length ss + length names
-count_more b [] names = refl
-count_more b (s ∷ ss) names = ap suc (count_more b ss names)
-
-servers_more : (xs ys : List Server) → length (xs ++ ys) ≡ length xs + length ys
-servers_more [] ys = refl
-servers_more (x ∷ xs) ys = ap suc (servers_more xs ys)
-
-names_count : (backs : List Back) → length (named_servers backs) ≡ length (all_servers backs)
-names_count [] = refl
-names_count (b ∷ backs) =
-    count_more b b.servers (named_servers backs) ∙ (ap (λ (k : ℕ). length b.servers + k) (names_count backs) ∙ sym (servers_more b.servers (all_servers backs)))
-
+-- one seat a server
 pub over_count : (servers : List Server) (seats : List Journal) → AreOver servers seats → length seats ≡ length servers
 over_count [] [] o = refl
 over_count [] (j ∷ seats) o = absurd o
 over_count (s ∷ servers) [] o = absurd o
 over_count (s ∷ servers) (j ∷ seats) o = ap suc (over_count servers seats o.1)
-
--- one seat a server: the parts have the servers' names and rules
-pub parts_named : (backs : List Back) (seats : List Journal) → length seats ≡ length (all_servers backs) → named_parts (parts_of (named_servers backs) seats) ≡ named_servers backs
-parts_named backs seats e = parts_are (named_servers backs) seats (e ∙ sym (names_count backs))
 
 -- the seats of a replay are over, as the teller asks it
 pub over_ran : (a b : Config) (seats : List Journal) → b ≡ a → AreOver (all_servers a.backs) seats → AreOver (all_servers b.backs) seats
@@ -77,9 +52,9 @@ pub tells_of : (script : Script) (config : Config) (seats : List Journal) (t : T
 tells_of script config seats t text e o s a p = record {
   transcript = t;
   spells = p;
-  servers = ap named_parts s
-      ∙ (ap (λ (c : Config). named_parts (parts_of (named_servers c.backs) seats)) e
-      ∙ parts_named script.config.backs seats (over_count (all_servers script.config.backs) seats o));
+  seats = seats;
+  each = over_count (all_servers script.config.backs) seats o;
+  servers = s ∙ ap (λ (c : Config). parts_of (named_servers c.backs) seats) e;
   are_true = a;
 }
 

@@ -1,31 +1,28 @@
 -- What any script of one thread is replayed to.
-use Rattle.std.specs.Prelude.{◌≡◌, ℕ, ◌+◌, ◌*◌, ◌<◌, ◌⊎◌, List, map, length, Ok, Err}
-use Rattle.hx_config.specs.declared.parts.Back.{Back}
+use Rattle.std.specs.Prelude.{◌≡◌, ℕ, ◌+◌, ◌*◌, ◌<◌, ◌⊎◌, List, length, Ok, Err}
+use Rattle.hx_config.specs.Limits.{all_servers}
+use Rattle.hx_pool.specs.Journal.{Journal}
 use Rattle.hx_script.specs.TrueTranscript.{AreTrueServers}
 use Rattle.hx_script.specs.Printed.{Spells}
-use Rattle.hx_script.specs.declared.transcript.ServerPart.{ServerPart}
 use Rattle.hx_script.specs.declared.transcript.Transcript.{Transcript}
 use Rattle.hx_script_parts.specs.Faults.{code_of}
 use Rattle.hx_script_parts.specs.Meaning.{Meaning, meaning_of}
 use Rattle.hx_script_parts.specs.declared.fault.Flaw.TheVariants as flaw
 use Rattle.hx_script_parts.specs.declared.fault.Rule.{Rule}
 use Rattle.hx_script_parts.specs.declared.fault.Rule.TheVariants.{BadWorker}
-use Rattle.hx_told.specs.Servers.{named_servers}
-use Rattle.hx_told.specs.declared.servers.Named.{Named}
+use Rattle.hx_told.specs.Servers.{named_servers, parts_of}
 use Rattle.hx_plays.specs.declared.plays.Replay.{Replay}
 use Rattle.hx_plays.specs.declared.plays.Replay.TheVariants as replay
 
--- the names and the rules of a transcript's servers
-abbrev pub named_parts : List ServerPart → List Named
-named_parts parts = map (λ (p : ServerPart). record { back = p.back; server = p.server; rules = p.rules }) parts
-
--- the text spells a transcript whose servers are those of the configuration, in order, by name and rules; and the marks and
--- the totals of each are those of one legal history that keeps mode and limit, in which every connection that was opened is
--- closed at the end
+-- the text spells a transcript whose servers are those of the configuration, in order, by name and rules, each with the marks
+-- of one journal; and the marks and the totals of each are those of one legal history that keeps mode and limit, in which
+-- every connection that was opened is closed at the end
 pub record TellsServers (script : Meaning) (text : List ℕ) : Type 0 where
   pub transcript : Transcript
   pub spells : Spells text transcript
-  pub servers : named_parts transcript.servers ≡ named_servers script.config.backs
+  pub seats : List Journal
+  pub each : length seats ≡ length (all_servers script.config.backs)
+  pub servers : transcript.servers ≡ parts_of (named_servers script.config.backs) seats
   pub are_true : AreTrueServers transcript.servers transcript.totals
 
 -- the bytes are a script of one thread, and the text tells its servers
