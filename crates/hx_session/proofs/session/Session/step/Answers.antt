@@ -1,4 +1,4 @@
-use Rattle.std.proofs.Common.{◌≡◌, Some, ◌∙◌, ◌<◌, arith, get_or, ℕ, List, length, map, refl, sym, ap, subst, true, None}
+use Rattle.std.proofs.Common.{◌≡◌, Some, ◌∙◌, ◌<◌, arith, get_or, ℕ, List, length, map, refl, sym, ap, subst, true, None, ⊎_elim, inl, inr, ◌⊎◌}
 use Rattle.std.proofs.lemmas.List.{length-map}
 use Rattle.hx_config.specs.declared.config.Config.{Config}
 use Rattle.hx_config.specs.declared.parts.Back.{Back}
@@ -39,6 +39,13 @@ use Rattle.hx_session.specs.Picked.{StepPicks}
 use Rattle.hx_session.specs.Picking.{PicksAll}
 use Rattle.hx_session.proofs.ChosenLemmas.{step_picks}
 use Rattle.hx_session.proofs.EntryLemmas.{below}
+use Rattle.hx_base.specs.declared.numbers.Millis.{Millis}
+use Rattle.std.specs.Prelude.{Option}
+use Rattle.hx_session.specs.Causes.{CanBeLate, HasCome}
+use Rattle.hx_session.specs.First.{IsFresh}
+use Rattle.hx_session.specs.Fits.{limits_of}
+use Rattle.hx_session.specs.Steps.{IsNew, ReadsFirst}
+use Rattle.hx_session.proofs.FirstLemmas.{limits_are, new_fresh}
 use Rattle.hx_session.proofs.session.Session.step.Goals as goal
 
 pub advance-stage-requires : goal.advance-stage-requires
@@ -227,3 +234,19 @@ returns-then-is_over-clause-same g c =
       about = refl;
       loop_no = refl;
     }
+
+pub returns-clause-first : goal.returns-clause-first
+returns-clause-first g c = λ n.
+    let front = c.self.inside.front in
+    let d : DeskNow = desk_now g.L.Link.state c.self.inside.desk in
+    let d2 : DeskNow = desk_now g.L.Link.state c.advance-stage.new.desk in
+    let s : StageNow = stage_now c.self.inside.stage in
+    let s2 : StageNow = stage_now c.advance-stage.result.stage in
+    let config = c.args.config.now in
+    let now = c.args.now.0 in
+    let scene = c.scene_of-scene in
+    let new = new_fresh front d s c.self.invariant (subst (λ (x : SessionNow). IsNew x) (sym c.self.view_is) n) in
+    let fresh = subst (λ (x : Stage g.row.L.Denot). IsFresh d.client d (stage_now x)) (sym c.replace-stage.ensures.value) new.0 in
+    let limits = limits_are (meaning config) front scene.result.front.now scene.result.back.now scene.ensures.front scene.ensures.back in
+    subst (λ (x : SessionNow). ReadsFirst x (session_seen front d2 s2) ⊎ CanBeLate (limits_of (meaning config) x.front).client x now) c.self.view_is
+    (⊎_elim (λ a. inl a) (λ b. inr (subst (λ (o : Option Millis). HasCome o d.since.0 now) (sym limits) (subst (λ (m : Millis). HasCome scene.result.front.now.client d.since.0 m.0) scene.ensures.now b))) (c.advance-stage.ensures.first fresh new.1))
