@@ -45,3 +45,6 @@ returns-clause-picks g c = λ k v hs p.
 
 pub returns-clause-first : goal.returns-clause-first
 returns-clause-first g c = λ l f. c.do_stage.ensures.first l (subst (λ (x : Came g.row.L.Denot). FreshOn l (desk_now g.L.Link.state c.args.desk.now) x) c.in-On.is f)
+
+pub returns-clause-left : goal.returns-clause-left
+returns-clause-left g c = λ limits moment k. c.do_stage.ensures.left limits moment

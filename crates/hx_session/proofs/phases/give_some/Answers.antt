@@ -13,6 +13,8 @@ use Rattle.hx_session.proofs.PartLemmas.{gave_placed, goes_from_desk}
 use Rattle.hx_session.proofs.ReadLemmas.{gives_keep}
 use Rattle.hx_session.specs.Seen.{conn_seen}
 use Rattle.hx_session.proofs.PickLemmas.{to_same, kind_self}
+use Rattle.hx_session.specs.Moves.{GivesClient}
+use Rattle.hx_session.proofs.LeavingLemmas.{gave_fault}
 use Rattle.hx_session.proofs.phases.give_some.Goals as goal
 
 pub returns-in-Bytes : goal.returns-in-Bytes
@@ -32,6 +34,7 @@ returns-in-Bytes g c =
         told = subst (λ (x : Move). DeskTells x d (stage_now c.args.stage) d2) c.in-Bytes.is (gives_told d d2 (stage_now c.args.stage) c.args.at.now.0 c.give.result c.give.ensures.gives);
       };
       rooms = rooms_none g.S.HasHistory.history (room_of g.S.HasHistory.kept_from g.S.HasHistory.spare) c.args.seats.now;
+      left = λ limits moment. tt;
       first = λ l f. absurd (idle_not c.give.result Bytes (gives_fresh l d d2 (stage_now c.args.stage) c.args.at.now.0 c.give.result f c.give.ensures.gives).0 c.in-Bytes.is (λ e. cc));
     }
 
@@ -52,6 +55,7 @@ returns-in-Ended g c =
         told = subst (λ (x : Move). DeskTells x d (stage_now c.args.stage) d2) c.in-Ended.is (gives_told d d2 (stage_now c.args.stage) c.args.at.now.0 c.give.result c.give.ensures.gives);
       };
       rooms = rooms_none g.S.HasHistory.history (room_of g.S.HasHistory.kept_from g.S.HasHistory.spare) c.args.seats.now;
+      left = λ limits moment. tt;
       first = λ l f. absurd (idle_not c.give.result Ended (gives_fresh l d d2 (stage_now c.args.stage) c.args.at.now.0 c.give.result f c.give.ensures.gives).0 c.in-Ended.is (λ e. cc));
     }
 
@@ -72,6 +76,7 @@ returns-in-Idle g c =
         told = subst (λ (x : Move). DeskTells x d (stage_now c.args.stage) d2) c.in-Idle.is (gives_told d d2 (stage_now c.args.stage) c.args.at.now.0 c.give.result c.give.ensures.gives);
       };
       rooms = rooms_none g.S.HasHistory.history (room_of g.S.HasHistory.kept_from g.S.HasHistory.spare) c.args.seats.now;
+      left = λ limits moment. tt;
       first = λ l f. (gives_fresh l d d2 (stage_now c.args.stage) c.args.at.now.0 c.give.result f c.give.ensures.gives).1;
     }
 
@@ -92,6 +97,7 @@ returns-in-Waits g c =
         told = subst (λ (x : Move). DeskTells x d (stage_now c.args.stage) d2) c.in-Waits.is (gives_told d d2 (stage_now c.args.stage) c.args.at.now.0 c.give.result c.give.ensures.gives);
       };
       rooms = rooms_none g.S.HasHistory.history (room_of g.S.HasHistory.kept_from g.S.HasHistory.spare) c.args.seats.now;
+      left = λ limits moment. tt;
       first = λ l f. absurd (idle_not c.give.result Waits (gives_fresh l d d2 (stage_now c.args.stage) c.args.at.now.0 c.give.result f c.give.ensures.gives).0 c.in-Waits.is (λ e. cc));
     }
 
@@ -100,7 +106,7 @@ leave_or_cut-requires g c =
     let d : DeskNow = desk_now g.L.Link.state c.args.desk.now in
     let d2 : DeskNow = desk_now g.L.Link.state c.give.new.desk in
     let seats : List History = map g.S.HasHistory.history c.args.seats.now in
-    record { placed = gave_placed d d2 (stage_now c.args.stage) c.args.at.now.0 c.give.result seats c.give.ensures.desk c.give.ensures.gives c.requires.placed }
+    record { placed = gave_placed d d2 (stage_now c.args.stage) c.args.at.now.0 c.give.result seats c.give.ensures.desk c.give.ensures.gives c.requires.placed; fault = gave_fault d d2 c.args.at.now.0 (subst (λ (x : Move). GivesClient d d2 c.args.at.now.0 x) c.in-Failed.is c.give.ensures.gives) }
 
 pub returns-in-Failed : goal.returns-in-Failed
 returns-in-Failed g c =
@@ -115,5 +121,6 @@ returns-in-Failed g c =
           (gives_keep d d2 c.args.at.now.0 c.give.result c.give.ensures.gives).desk (gives_keep d d2 c.args.at.now.0 c.give.result c.give.ensures.gives).number c.leave_or_cut.ensures.goes
           (subst (λ (x : Move). DeskTells x d (stage_now c.args.stage) d2) c.in-Failed.is (gives_told d d2 (stage_now c.args.stage) c.args.at.now.0 c.give.result c.give.ensures.gives));
       rooms = c.leave_or_cut.ensures.rooms;
+      left = c.leave_or_cut.ensures.left;
       first = λ l f. absurd (idle_not c.give.result Failed (gives_fresh l d d2 (stage_now c.args.stage) c.args.at.now.0 c.give.result f c.give.ensures.gives).0 c.in-Failed.is (λ e. cc));
     }

@@ -32,5 +32,6 @@ returns-in-None g c =
         told = subst (λ (x : DeskNow). IsStillTold d s x s) (sym same) (still_same d s);
       };
       rooms = rooms_none g.S.HasHistory.history (room_of g.S.HasHistory.kept_from g.S.HasHistory.spare) c.args.seats.now;
+      left = tt;
       first = λ f one. inl (fresh_desk (g.L.Link.state c.args.desk.now.client) d d2 s same f);
     }

@@ -19,6 +19,7 @@ use Rattle.hx_session.specs.Picking.{Picks}
 use Rattle.hx_session.proofs.PickLemmas.{picks_then}
 use Rattle.hx_session.specs.First.{ReadOn}
 use Rattle.hx_session.proofs.FirstLemmas.{read_not, read_was}
+use Rattle.hx_session.proofs.LeavingLemmas.{told_leaves}
 use Rattle.hx_session.proofs.phases.move_from_server.Goals as goal
 
 pub returns-clause-routed : goal.returns-clause-routed
@@ -73,3 +74,9 @@ returns-in_default-clause-first g c = λ l r. read_was l (desk_now g.L.Link.stat
 
 pub returns-in_default-stage-clause-first : goal.returns-in_default-stage-clause-first
 returns-in_default-stage-clause-first g c = λ l r. read_was l (desk_now g.L.Link.state c.args.desk.now) c.args.came r
+
+pub returns-clause-left : goal.returns-clause-left
+returns-clause-left g c = λ limits moment k.
+    let d : DeskNow = desk_now g.L.Link.state c.args.desk.now in
+    let d2 : DeskNow = desk_now g.L.Link.state c.read_some.new.desk in
+    told_leaves limits moment d d2 d2 (exchange_now c.in-Exchanging.exchange) c.read_some.result c.read_some.ensures.goes.told
