@@ -25,7 +25,7 @@ drop_front : (before bytes : List ℕ) → drop (length before) (before ++ bytes
 drop_front [] bytes = refl
 drop_front (x ∷ xs) bytes = drop_front xs bytes
 
-since_bytes : (P : List ℕ → Type 0) (told : Option (List ℕ)) (total from : ℕ) (bytes : List ℕ) → HasSince told total from bytes → P bytes → IfSome told (λ all. P (drop from all))
+pub since_bytes : (P : List ℕ → Type 0) (told : Option (List ℕ)) (total from : ℕ) (bytes : List ℕ) → HasSince told total from bytes → P bytes → IfSome told (λ all. P (drop from all))
 since_bytes P None total from bytes h p = tt
 since_bytes P (Some all) total from bytes h p =
     let b = h.bytes_are in

@@ -131,7 +131,7 @@ goes_away {X = X} d d2 held c x seats net e is same none plain between p =
     (goes_ends d d (Reading held) seats seats net net c x is (place_in d d seats net (desk_none d))
     (subst (λ (h : Option RestedNow). IsLeaving d h seats) (sym same) (leaves_between d held seats between p.set.numbered p.set.around p.set.own))
     (inl (refl, refl, ap resting same, tt, subst (λ (o : Option Served). GivesOwn o (resting held)) (sym none) tt))
-    (subst (λ (o : Option Served). TellsEnd (Reading held) d d o x.cause) (sym none) (none_same d, plain))
+    (subst (λ (o : Option Served). TellsEnd (Reading held) d d o x.cause) (sym none) (none_same d, plain, tt))
     (ends_held held None seats x same))
 
 -- the connection's server stays

@@ -30,7 +30,7 @@ use Rattle.hx_session.specs.Over.{IsTold, carried_by, closing_of, served_of, aft
 use Rattle.hx_session.specs.Records.{WhereTold, cut_ends, ends_after, no_carriage}
 use Rattle.hx_session.specs.Stages.{StageNow, ChoosingNow, AnsweringNow, Reading, Choosing, Exchanging, Answering, Left, own_stage, stage_now, IsAnswering}
 use Rattle.hx_session.specs.Since.{HasSince}
-use Rattle.hx_session.specs.Telling.{CarriesSame, IsSameExchange, IsSameStage, TellsNone, IsStillTold, TellsOne, IsToldOwn, IsOfStage, LeavesWith, LeavesPlainly, LeavesOwn, finished_for, TellsMoved, TellsEnd, CameTells, GivesPassed}
+use Rattle.hx_session.specs.Telling.{HasNoRequest, CarriesSame, IsSameExchange, IsSameStage, TellsNone, IsStillTold, TellsOne, IsToldOwn, IsOfStage, LeavesWith, LeavesPlainly, LeavesOwn, finished_for, TellsMoved, TellsEnd, CameTells, GivesPassed}
 use Rattle.hx_session.proofs.PassedLemmas.{in_middle, lies_in}
 
 pub link_same : (l : LinkState) → CarriesSame l l
@@ -199,13 +199,22 @@ moved_then d0 d d' s t (Some r) x y = (
   y.3 ∙ x.none.finished,
 )
 
+-- nothing of a request was under way before either
+request_back : (s t : StageNow) → IsSameStage s t → HasNoRequest t → HasNoRequest s
+request_back (Reading held) t same h = tt
+request_back (Choosing c) t same h = tt
+request_back (Exchanging e) t same h = absurd (subst (λ (z : StageNow). HasNoRequest z) same.1 h)
+request_back (Answering a) t same h = absurd (subst (λ (z : StageNow). HasNoRequest z) same h)
+request_back Left t same h = absurd (subst (λ (z : StageNow). HasNoRequest z) same h)
+
 end_then : (d0 d d' : DeskNow) (s t : StageNow) (served : Option Served) (why : LeftCause) → IsStillTold d0 s d t → TellsEnd t d d' served why → TellsEnd s d0 d' served why
-end_then d0 d d' s t None why x y = (none_then d0 d d' x.none y.0, y.1)
+end_then d0 d d' s t None why x y = (none_then d0 d d' x.none y.0, y.1, request_back s t x.stage y.2)
 end_then d0 d d' s t (Some r) why x y = (
   one_then d0 d d' s t r x y.0,
   of_stage_then s t d0 d why r r.kind x.stage x.client y.1,
   y.2,
   y.3 ∙ ap (λ (b : Bool). finished_for why b) x.none.finished,
+  y.4,
 )
 
 -- a part of a step behind parts that did nothing
@@ -302,6 +311,7 @@ cut_told d d1 d2 e w r ends k is = (
   cut_of d d1 e w r cause.Cut k,
   subst (λ (x : Served). LeavesWith (ends_after x.kind) cause.Cut) (sym k.served) (inl (sym ends)),
   cut_finished d d1 d2 e w r k is,
+  λ e. cc,
 )
 
 -- an own answer's record is true
@@ -360,14 +370,15 @@ pub own_of : (d : DeskNow) (status : ℕ) (held : Option RestedNow) (r : Served)
     → IsOfStage (own_stage status held) d why r r.kind
 own_of d status held r why a leaves is = subst (λ (x : Served). IsOfStage (own_stage status held) d why x x.kind) (sym is) (refl, own_true d status why a leaves)
 
-pub own_told : (d d1 d2 : DeskNow) (status : ℕ) (held : Option RestedNow) (r : Served) (why : LeftCause) → IsAnswering d status → LeavesOwn d why → r ≡ served_of d (kind.Own status) d.taken
+pub own_told : (d d1 d2 : DeskNow) (status : ℕ) (held : Option RestedNow) (r : Served) (why : LeftCause) → (why ≡ cause.Stop → ⊥) → IsAnswering d status → LeavesOwn d why → r ≡ served_of d (kind.Own status) d.taken
     → d1 ≡ after_record d d.taken → d2 ≡ emptied d1 → TellsEnd (own_stage status held) d d2 (Some r) why
-own_told d d1 d2 status held r why a leaves is first last =
+own_told d d1 d2 status held r why going a leaves is first last =
     let desk = own_desk d d1 d2 first last in (
       own_one d d2 status r is desk,
       own_of d status held r why a leaves is,
       subst (λ (x : Served). LeavesWith (ends_after x.kind) why) (sym is) (own_with d why leaves),
       ap (λ (x : DeskNow). x.client.finished) desk ∙ own_finish d why d.client.finished leaves,
+      going,
     )
 
 -- the record of an exchange that passed
@@ -415,6 +426,7 @@ passed_closes d d1 l e r closing closed is p told finishes = (
   passed_of d d1 e r cause.Closing p told,
   subst (λ (o : Option LeftCause). LeavesWith o cause.Closing) (sym (passed_ends d d1 e r closing p is ∙ ap (λ (b : Bool). if b then Some cause.Closing else None) closed)) (inl refl),
   ap (λ (x : LinkState). x.finished) finishes.0,
+  λ e. cc,
 )
 
 -- a session that leaves, once its client's link is on no loop
@@ -428,6 +440,7 @@ end_detached s d0 d d' None why is same finished t = (
     finished = finished ∙ t.0.finished;
   },
   t.1,
+  t.2,
 )
 end_detached s d0 d d' (Some r) why is same finished t = (
   record {
@@ -444,6 +457,7 @@ end_detached s d0 d d' (Some r) why is same finished t = (
   t.1,
   t.2,
   finished ∙ t.3,
+  t.4,
 )
 
 -- a server is chosen, and nothing else is done

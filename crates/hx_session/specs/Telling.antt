@@ -123,12 +123,18 @@ TellsMoved s d d' None = TellsNone d d'
 TellsMoved s d d' (Some r) =
     TellsOne d d' r × IsOfStage s d cause.End r r.kind × (ends_after r.kind ≡ None) × (d'.client.finished ≡ d.client.finished)
 
--- a part after which it leaves
+-- where nothing of a request is under way
+abbrev pub HasNoRequest : StageNow → Type 0
+HasNoRequest (Reading held) = ⊤
+HasNoRequest (Choosing c) = ⊤
+HasNoRequest s = ⊥
+
+-- a part after which it leaves, without a record only where nothing of a request is under way
 abbrev pub TellsEnd : StageNow → DeskNow → DeskNow → Option Served → LeftCause → Type 0
-TellsEnd s d d' None why = TellsNone d d' × LeavesPlainly why
+TellsEnd s d d' None why = TellsNone d d' × LeavesPlainly why × HasNoRequest s
 TellsEnd s d d' (Some r) why =
     TellsOne d d' r × IsOfStage s d why r r.kind × LeavesWith (ends_after r.kind) why
-    × (d'.client.finished ≡ finished_for why d.client.finished)
+    × (d'.client.finished ≡ finished_for why d.client.finished) × (why ≡ cause.Stop → ⊥)
 
 -- what a part of a step told
 abbrev pub CameTells : {X : Type 0} → DeskNow → StageNow → DeskNow → Came X → Type 0
@@ -146,12 +152,6 @@ abbrev pub StopsStage : StageNow → Kind → Type 0
 StopsStage (Exchanging e) (kind.Cut c w) = (w ≡ cut.Stop) × (c.closing ≡ closing_of e.answer)
 StopsStage (Answering a) (kind.Own status) = ⊤
 StopsStage s k = ⊥
-
--- where nothing of a request is under way
-abbrev pub HasNoRequest : StageNow → Type 0
-HasNoRequest (Reading held) = ⊤
-HasNoRequest (Choosing c) = ⊤
-HasNoRequest s = ⊥
 
 -- what a stop told
 abbrev pub StopTells : StageNow → DeskNow → DeskNow → Option Served → Type 0

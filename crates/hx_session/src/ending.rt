@@ -1,6 +1,6 @@
 //! How exchanges and sessions end early.
 
-ghost use Rattle.std.specs.Prelude.{◌≡◌, ◌+◌, ◌≤◌, [], List, length, map, Some, None};
+ghost use Rattle.std.specs.Prelude.{◌≡◌, ◌+◌, ◌≤◌, ℕ, [], List, Option, length, map, Some, None};
 ghost use Rattle.hx_link.specs.Nets.{NetState};
 ghost use Rattle.hx_link.specs.Pipes.{pipe as a_pipe};
 ghost use Rattle.hx_message.specs.OwnAnswer.{IsOwnAnswer};
@@ -14,12 +14,15 @@ ghost use Rattle.hx_connecting.specs.Sessions.{Exchanging as OnConn};
 ghost use Rattle.hx_connecting.specs.Journals.{room_of};
 ghost use Rattle.hx_connecting.specs.Rooms.{RoomsStay};
 ghost use Rattle.hx_session.specs.Parting.{PartTouches, StopCloses};
-ghost use Rattle.hx_conn.specs.Conns.{IsBusy};
+ghost use Rattle.hx_conn.specs.Conns.{IsBusy, RestedNow};
 ghost use Rattle.hx_session.specs.declared.stage.Came.TheVariants.{Ends};
 ghost use Rattle.hx_session.specs.Desks.{desk_now, IsDesk};
 ghost use Rattle.hx_session.specs.Exchanged.{exchange_now};
+ghost use Rattle.hx_session.specs.Causes.{Limits};
+ghost use Rattle.hx_session.specs.First.{IsEnding};
+ghost use Rattle.hx_session.specs.Leaving.{CameLeaves, LeavesBy};
 ghost use Rattle.hx_session.specs.Over.{served_of, after_record};
-ghost use Rattle.hx_session.specs.Stages.{Exchanging, StandsSo, own_stage, stage_of_answering, stage_now};
+ghost use Rattle.hx_session.specs.Stages.{Exchanging, Reading, StandsSo, own_stage, stage_of_answering, stage_now};
 ghost use Rattle.hx_record.specs.declared.served.CutCause.TheVariants.{Early};
 ghost use Rattle.hx_session.specs.Ending.{EndsEarly, CutsOff, EndsInCut, HasOwnText, AnswersOwn};
 ghost use Rattle.hx_session.specs.Standing.{IsCounted, IsLeaving, IsPlaced, IsSet, KeepsPlace, Goes};
@@ -253,8 +256,11 @@ pub(crate) fn leave_answering<L: Link>(
     requires stands { StandsSo (desk_now L.state desk.old) (stage_of_answering answering) }
     requires counted { IsCounted (desk_now L.state desk.old) }
     requires cause { LeavesOwn (desk_now L.state desk.old) left }
+    requires going { left ≡ left_cause.Stop → ⊥ }
     ensures goes { (seats : List History) (net : NetState) → IsPlaced (desk_now L.state desk.old) (stage_of_answering answering) seats
         → Goes (desk_now L.state desk.old) (stage_of_answering answering) seats net (desk_now L.state desk.new) result seats net }
+    ensures left { (limits : Limits) (moment : ℕ) → LeavesBy limits moment (desk_now L.state desk.old) left
+        → CameLeaves limits moment (desk_now L.state desk.new) result }
 {
     let Answering { status, held } = answering;
     let served = tell_own(desk, status);
@@ -271,9 +277,12 @@ pub(crate) fn leave_or_cut<L: Link, S: Seat<Rested<L>>, N: Net<L = L>>(
     net: &mut N,
 ) -> Came<L>
     requires placed { IsPlaced (desk_now L.state desk.old) (stage_now stage) (map S.history seats.old) }
+    requires fault { 1 ≤ (L.state desk.old.client).faults }
     ensures rooms { RoomsStay S.history (room_of S.kept_from S.spare) seats.old seats.new }
     ensures goes { Goes (desk_now L.state desk.old) (stage_now stage) (map S.history seats.old) (N.state net.old)
         (desk_now L.state desk.new) result (map S.history seats.new) (N.state net.new) }
+    ensures leaves { (held : Option RestedNow) → stage_now stage ≡ Reading held → IsEnding result }
+    ensures left { (limits : Limits) (moment : ℕ) → CameLeaves limits moment (desk_now L.state desk.new) result }
 {
     match stage {
         Stage::Exchanging(exchange) => cut(desk, exchange, seats, net, CutCause::Client),

@@ -1,10 +1,11 @@
 //! The parts of a step, in their order.
 
-ghost use Rattle.std.specs.Prelude.{◌≡◌, ◌↔◌, ◌<◌, ◌≤◌, IsTrue, List, Option, length, map, false, None};
+ghost use Rattle.std.specs.Prelude.{◌≡◌, ◌⊎◌, ◌↔◌, ◌<◌, ◌≤◌, ℕ, IsTrue, IfSome, List, Option, length, map, false, None, Some};
 ghost use Rattle.hx_base.specs.declared.numbers.ServerNo.{ServerNo};
 ghost use Rattle.hx_config.specs.declared.parts.Back.{Back};
 ghost use Rattle.hx_config.specs.Limits.{all_servers};
 ghost use Rattle.hx_link.specs.Nets.{NetState};
+ghost use Rattle.hx_link.specs.Told.{LinkState};
 ghost use Rattle.hx_pool.specs.SeatView.{History};
 ghost use Rattle.hx_connecting.specs.Around.{abouts};
 ghost use Rattle.hx_connecting.specs.Choice.{HaveSeats};
@@ -13,6 +14,11 @@ ghost use Rattle.hx_connecting.specs.Rooms.{RoomsStay};
 ghost use Rattle.hx_connecting.specs.Sessions.{Holding};
 ghost use Rattle.hx_session.specs.Desks.{DeskNow, desk_now};
 ghost use Rattle.hx_session.specs.Exchanged.{ExchangeNow, exchange_now};
+ghost use Rattle.hx_session.specs.Causes.{HasCome, Limits};
+ghost use Rattle.hx_session.specs.Fits.{limits_with};
+ghost use Rattle.hx_session.specs.Leaving.{CameLeaves, LeavesBy};
+ghost use Rattle.hx_record.specs.declared.served.LeftCause.TheVariants as left_cause;
+ghost use Rattle.hx_session.specs.First.{IsFresh, FreshOn, ReadOn, WasRead};
 ghost use Rattle.hx_session.specs.Ending.{HasOwnText};
 ghost use Rattle.hx_session.specs.declared.moves.Move.TheVariants.{Failed};
 ghost use Rattle.hx_session.specs.Moves.{with_client};
@@ -85,6 +91,8 @@ fn read_late<L: Link>(desk: &mut Desk<L>, held: Option<Rested<L>>, own: Own) -> 
     requires between { IsBetween (desk_now L.state desk.old) }
     ensures goes { (seats : List History) (net : NetState) → IsPlaced (desk_now L.state desk.old) (Reading held) seats
         → Goes (desk_now L.state desk.old) (Reading held) seats net (desk_now L.state desk.new) result seats net }
+    ensures left { (limits : Limits) (moment : ℕ) → LeavesBy limits moment (desk_now L.state desk.old) left_cause.Idle
+        → CameLeaves limits moment (desk_now L.state desk.new) result }
 {
     if desk.ask_from < desk.taken {
         let stage = answer(desk, own.status, held, own.now);
@@ -100,6 +108,7 @@ fn choose_late<L: Link>(desk: &mut Desk<L>, choosing: Choosing<L>, own: Own) -> 
     requires between { IsBetween (desk_now L.state desk.old) }
     ensures goes { (seats : List History) (net : NetState) → IsPlaced (desk_now L.state desk.old) (stage_of_choosing choosing) seats
         → Goes (desk_now L.state desk.old) (stage_of_choosing choosing) seats net (desk_now L.state desk.new) result seats net }
+    ensures left { (limits : Limits) (moment : ℕ) → CameLeaves limits moment (desk_now L.state desk.new) result }
 {
     let Choosing { held, .. } = choosing;
     let stage = answer(desk, own.status, held, own.now);
@@ -119,6 +128,8 @@ fn meet_client_late<L: Link, S: Seat<Rested<L>>, N: Net<L = L>>(
     ensures rooms { RoomsStay S.history (room_of S.kept_from S.spare) seats.old seats.new }
     ensures goes { Goes (desk_now L.state desk.old) (stage_now stage) (map S.history seats.old) (N.state net.old)
         (desk_now L.state desk.new) result (map S.history seats.new) (N.state net.new) }
+    ensures left { (limits : Limits) (moment : ℕ) → LeavesBy limits moment (desk_now L.state desk.old) left_cause.Idle
+        → CameLeaves limits moment (desk_now L.state desk.new) result }
 {
     match stage {
         Stage::Exchanging(exchange) => cut_late(desk, exchange, seats, net, own),
@@ -158,6 +169,7 @@ fn meet_server_late<L: Link, S: Seat<Rested<L>>, N: Net<L = L>>(
     ensures rooms { RoomsStay S.history (room_of S.kept_from S.spare) seats.old seats.new }
     ensures goes { Goes (desk_now L.state desk.old) (stage_now stage) (map S.history seats.old) (N.state net.old)
         (desk_now L.state desk.new) result (map S.history seats.new) (N.state net.new) }
+    ensures left { (limits : Limits) (moment : ℕ) → CameLeaves limits moment (desk_now L.state desk.new) result }
 {
     match stage {
         Stage::Exchanging(exchange) => end_by_server(
@@ -186,6 +198,11 @@ fn meet_deadline<L: Link, S: Seat<Rested<L>>, N: Net<L = L>>(
     ensures rooms { RoomsStay S.history (room_of S.kept_from S.spare) seats.old seats.new }
     ensures goes { Goes (desk_now L.state desk.old) (stage_now stage) (map S.history seats.old) (N.state net.old)
         (desk_now L.state desk.new) result (map S.history seats.new) (N.state net.new) }
+    ensures first { IsFresh (L.state desk.old.client) (desk_now L.state desk.old) (stage_now stage) → desk.old.number ≡ 1
+        → FreshOn (L.state desk.old.client) (desk_now L.state desk.new) result
+        ⊎ HasCome scene.entry.front.now.client desk.old.since.0 scene.entry.now.0 }
+    ensures left { CameLeaves (limits_with (Some scene.entry.front.now) (Some scene.entry.back.now)) scene.entry.now.0
+        (desk_now L.state desk.new) result }
 {
     match find_late(desk, &stage, scene.front, scene.back, scene.now) {
         None => Came::On(stage, Waiting::Nothing),
@@ -212,6 +229,8 @@ fn give_some<L: Link, S: Seat<Rested<L>>, N: Net<L = L>>(
     ensures rooms { RoomsStay S.history (room_of S.kept_from S.spare) seats.old seats.new }
     ensures goes { Goes (desk_now L.state desk.old) (stage_now stage) (map S.history seats.old) (N.state net.old)
         (desk_now L.state desk.new) result (map S.history seats.new) (N.state net.new) }
+    ensures first { (l : LinkState) → IsFresh l (desk_now L.state desk.old) (stage_now stage) → FreshOn l (desk_now L.state desk.new) result }
+    ensures left { (limits : Limits) (moment : ℕ) → CameLeaves limits moment (desk_now L.state desk.new) result }
 {
     match give(desk, at.now) {
         Move::Bytes => Came::Moved(stage, at.waits, None),
@@ -242,6 +261,9 @@ fn move_to_client<L: Link, S: Seat<Rested<L>>, N: Net<L = L>>(
         → Picks c v hs result (map S.history seats.new) }
     ensures told { (d0 : DeskNow) (s0 : StageNow) → CameTells d0 s0 (desk_now L.state desk.old) came
         → CameTells d0 s0 (desk_now L.state desk.new) result }
+    ensures first { (l : LinkState) → FreshOn l (desk_now L.state desk.old) came → FreshOn l (desk_now L.state desk.new) result }
+    ensures left { (limits : Limits) (moment : ℕ) → CameLeaves limits moment (desk_now L.state desk.old) came
+        → CameLeaves limits moment (desk_now L.state desk.new) result }
 {
     let Came::On(stage, waits) = came else {
         return came;
@@ -321,6 +343,9 @@ fn move_to_server<L: Link, S: Seat<Rested<L>>, N: Net<L = L>>(
         → Picks c v hs result (map S.history seats.new) }
     ensures told { (d0 : DeskNow) (s0 : StageNow) → CameTells d0 s0 (desk_now L.state desk.old) came
         → CameTells d0 s0 (desk_now L.state desk.new) result }
+    ensures first { (l : LinkState) → FreshOn l (desk_now L.state desk.old) came → FreshOn l (desk_now L.state desk.new) result }
+    ensures left { (limits : Limits) (moment : ℕ) → CameLeaves limits moment (desk_now L.state desk.old) came
+        → CameLeaves limits moment (desk_now L.state desk.new) result }
 {
     let Came::On(stage, waits) = came else {
         return came;
@@ -351,6 +376,8 @@ fn take_turn<L: Link, S: Seat<Rested<L>>>(
         → Picks (conn_seen s0) (chosen_seen s0) hs came (map S.history seats.old)
         → PicksSo back.now.servers turn.old turn.new s0 hs result (map S.history seats.new) }
     ensures told { (d0 d : DeskNow) (s0 : StageNow) → CameTells d0 s0 d came → CameTells d0 s0 d result }
+    ensures first { (l : LinkState) (d : DeskNow) → FreshOn l d came → FreshOn l d result }
+    ensures left { (limits : Limits) (moment : ℕ) (d : DeskNow) → CameLeaves limits moment d came → CameLeaves limits moment d result }
 {
     let Came::On(stage, waits) = came else {
         return came;
@@ -364,6 +391,7 @@ fn end_answering<L: Link>(desk: &mut Desk<L>, answering: Answering<L>, waits: Wa
     requires counted { IsCounted (desk_now L.state desk.old) }
     ensures goes { (seats : List History) (net : NetState) → IsPlaced (desk_now L.state desk.old) (stage_of_answering answering) seats
         → Goes (desk_now L.state desk.old) (stage_of_answering answering) seats net (desk_now L.state desk.new) result seats net }
+    ensures left { (limits : Limits) (moment : ℕ) → CameLeaves limits moment (desk_now L.state desk.new) result }
 {
     if desk.to.len() > 0 {
         return Came::On(Stage::Answering(answering), waits);
@@ -387,6 +415,8 @@ fn do_stage<L: Link, S: Seat<Rested<L>>, N: Net<L = L>>(
     ensures rooms { RoomsStay S.history (room_of S.kept_from S.spare) seats.old seats.new }
     ensures goes { Goes (desk_now L.state desk.old) (stage_now stage) (map S.history seats.old) (N.state net.old)
         (desk_now L.state desk.new) result (map S.history seats.new) (N.state net.new) }
+    ensures first { (l : LinkState) → IsFresh l (desk_now L.state desk.old) (stage_now stage) → FreshOn l (desk_now L.state desk.new) result }
+    ensures left { (limits : Limits) (moment : ℕ) → CameLeaves limits moment (desk_now L.state desk.new) result }
 {
     match stage {
         Stage::Reading(held) => read_head(desk, held, scene.now, scene.waits),
@@ -430,6 +460,9 @@ fn do_phase<L: Link, S: Seat<Rested<L>>, N: Net<L = L>>(
         → Picks c v hs result (map S.history seats.new) }
     ensures told { (d0 : DeskNow) (s0 : StageNow) → CameTells d0 s0 (desk_now L.state desk.old) came
         → CameTells d0 s0 (desk_now L.state desk.new) result }
+    ensures first { (l : LinkState) → FreshOn l (desk_now L.state desk.old) came → FreshOn l (desk_now L.state desk.new) result }
+    ensures left { (limits : Limits) (moment : ℕ) → CameLeaves limits moment (desk_now L.state desk.old) came
+        → CameLeaves limits moment (desk_now L.state desk.new) result }
 {
     let Came::On(stage, waits) = came else {
         return came;
@@ -467,6 +500,8 @@ fn take_some<L: Link, S: Seat<Rested<L>>, N: Net<L = L>>(
     ensures rooms { RoomsStay S.history (room_of S.kept_from S.spare) seats.old seats.new }
     ensures goes { Goes (desk_now L.state desk.old) (stage_now stage) (map S.history seats.old) (N.state net.old)
         (desk_now L.state desk.new) result (map S.history seats.new) (N.state net.new) }
+    ensures first { (l : LinkState) → IsFresh l (desk_now L.state desk.old) (stage_now stage) → ReadOn l (desk_now L.state desk.new) result }
+    ensures left { (limits : Limits) (moment : ℕ) → CameLeaves limits moment (desk_now L.state desk.new) result }
 {
     match read_client(desk, at.now) {
         Move::Bytes => Came::Moved(stage, at.waits, None),
@@ -497,6 +532,9 @@ fn move_from_client<L: Link, S: Seat<Rested<L>>, N: Net<L = L>>(
         → Picks c v hs result (map S.history seats.new) }
     ensures told { (d0 : DeskNow) (s0 : StageNow) → CameTells d0 s0 (desk_now L.state desk.old) came
         → CameTells d0 s0 (desk_now L.state desk.new) result }
+    ensures first { (l : LinkState) → FreshOn l (desk_now L.state desk.old) came → ReadOn l (desk_now L.state desk.new) result }
+    ensures left { (limits : Limits) (moment : ℕ) → CameLeaves limits moment (desk_now L.state desk.old) came
+        → CameLeaves limits moment (desk_now L.state desk.new) result }
 {
     let Came::On(stage, waits) = came else {
         return came;
@@ -544,6 +582,9 @@ fn move_from_server<L: Link, S: Seat<Rested<L>>, N: Net<L = L>>(
         → Picks c v hs result (map S.history seats.new) }
     ensures told { (d0 : DeskNow) (s0 : StageNow) → CameTells d0 s0 (desk_now L.state desk.old) came
         → CameTells d0 s0 (desk_now L.state desk.new) result }
+    ensures first { (l : LinkState) → ReadOn l (desk_now L.state desk.old) came → WasRead l (L.state desk.new.client) }
+    ensures left { (limits : Limits) (moment : ℕ) → CameLeaves limits moment (desk_now L.state desk.old) came
+        → CameLeaves limits moment (desk_now L.state desk.new) result }
 {
     let Came::On(stage, waits) = came else {
         return came;
@@ -593,6 +634,9 @@ fn give_left<L: Link, S: Seat<Rested<L>>, N: Net<L = L>>(
     ensures seats { ending.held ≡ None → map S.history seats.new ≡ map S.history seats.old }
     ensures told { (d0 : DeskNow) (s0 : StageNow) → TellsEnd s0 d0 (desk_now L.state desk.old) ending.served ending.cause
         → DoneTells d0 s0 (desk_now L.state desk.new) result.served result.left }
+    ensures client { L.state desk.new.client ≡ record (L.state desk.old.client) { on_loop = None } }
+    ensures left { (limits : Limits) (moment : ℕ) → LeavesBy limits moment (desk_now L.state desk.old) ending.cause
+        → IfSome result.left (λ l. LeavesBy limits moment (desk_now L.state desk.new) l.cause) }
 {
     let Ending {
         cause,
@@ -629,6 +673,9 @@ fn conclude<L: Link, S: Seat<Rested<L>>, N: Net<L = L>>(
         → PicksTo c v hs (stage_now result.stage) (map S.history seats.new) }
     ensures told { (d0 : DeskNow) (s0 : StageNow) → CameTells d0 s0 (desk_now L.state desk.old) came
         → DoneTells d0 s0 (desk_now L.state desk.new) result.served result.left }
+    ensures first { (l : LinkState) → WasRead l (L.state desk.old.client) → WasRead l (L.state desk.new.client) }
+    ensures left { (limits : Limits) (moment : ℕ) → CameLeaves limits moment (desk_now L.state desk.old) came
+        → IfSome result.left (λ l. LeavesBy limits moment (desk_now L.state desk.new) l.cause) }
 {
     match came {
         Came::On(stage, waits) => Done {
@@ -677,6 +724,11 @@ pub(crate) fn advance<L: Link, S: Seat<Rested<L>>, N: Net<L = L>>(
     ensures picks { PicksAll scene.entry.back.now.servers turn.old turn.new (stage_now stage) (map S.history seats.old)
         (stage_now result.stage) (map S.history seats.new) }
     ensures told { DoneTells (desk_now L.state desk.old) (stage_now stage) (desk_now L.state desk.new) result.served result.left }
+    ensures first { IsFresh (L.state desk.old.client) (desk_now L.state desk.old) (stage_now stage) → desk.old.number ≡ 1
+        → WasRead (L.state desk.old.client) (L.state desk.new.client)
+        ⊎ HasCome scene.entry.front.now.client desk.old.since.0 scene.entry.now.0 }
+    ensures left { IfSome result.left (λ l. LeavesBy (limits_with (Some scene.entry.front.now) (Some scene.entry.back.now))
+        scene.entry.now.0 (desk_now L.state desk.new) l.cause) }
 {
     let came = meet_deadline(desk, stage, seats, net, scene);
     let came = move_to_client(desk, came, seats, net, scene.now);

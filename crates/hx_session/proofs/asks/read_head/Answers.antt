@@ -1,10 +1,14 @@
-use Rattle.std.proofs.Common.{ap, inl, refl, sym, subst}
+use Rattle.std.proofs.Common.{ap, arith, length, refl, sym, subst, ◌∙◌}
 use Rattle.hx_link.specs.Pipes.{PipeNow}
 use Rattle.hx_session.specs.Desks.{desk_now, DeskNow}
 use Rattle.hx_session.specs.Ending.{HasOwnText}
 use Rattle.hx_session.specs.declared.stage.Stage.TheVariants.{Reading}
 use Rattle.hx_session.proofs.OwnLemmas.{fault_text}
-use Rattle.hx_session.proofs.PartLemmas.{goes_away, goes_choosing, goes_still}
+use Rattle.hx_session.proofs.PartLemmas.{goes_choosing}
+use Rattle.hx_session.specs.Stages.{Reading}
+use Rattle.hx_session.specs.Standing.{Goes, IsPlaced}
+use Rattle.std.proofs.lemmas.List.{nil_from_length}
+use Rattle.hx_session.proofs.LeavingLemmas.{none_empty}
 use Rattle.hx_session.proofs.asks.read_head.Goals as goal
 
 pub answer-stage-requires-clause-known : goal.answer-stage-requires-clause-known
@@ -18,20 +22,18 @@ returns-in-Whole g c = record {
       let server = c.held_server-server in
       goes_choosing d (record d { from = from }) c.args.held (record { asked = c.in-Whole.asked; server = server.result; held = c.args.held }) _ c.args.waits seats net
       (ap (λ (q : PipeNow). record d { from = q }) c.look_up.ensures.same) refl refl server.ensures c.in-Whole.ensures.looks p;
+  first = λ l f. omega (arith, c.len.ensures.len, c.if-len-eq0.false, ap length f.from);
+  left = λ limits moment. tt;
 }
 
-pub returns-then-desk : goal.returns-then-desk
-returns-then-desk g c = record {
-  goes = λ seats net p.
-      let d : DeskNow = desk_now g.L.Link.state c.args.desk.now in
-      let from : PipeNow = c.look_up.new.from in
-      goes_away d (record d { from = from }) c.args.held c.leave.result _ seats net (ap (λ (q : PipeNow). record d { from = q }) c.look_up.ensures.same) c.leave.ensures refl refl (inl refl) c.requires.between p;
-}
+pub returns-in-More-clause-goes : goal.returns-in-More-clause-goes
+returns-in-More-clause-goes g c = λ seats net p.
+    let d : DeskNow = desk_now g.L.Link.state c.args.desk.now in
+    let from : PipeNow = c.look_up.new.from in
+    let d2 : DeskNow = record d { from = from } in
+    let e = ap (λ (q : PipeNow). record d { from = q }) c.look_up.ensures.same in
+    subst (λ (x : DeskNow). Goes x (Reading c.args.held) seats net d2 c.wait_for_head-in-More.result seats net) e
+    (c.wait_for_head-in-More.ensures.goes seats net (subst (λ (x : DeskNow). IsPlaced x (Reading c.args.held) seats) (sym e) p))
 
-pub returns-else-desk : goal.returns-else-desk
-returns-else-desk g c = record {
-  goes = λ seats net p.
-      let d : DeskNow = desk_now g.L.Link.state c.args.desk.now in
-      let from : PipeNow = c.look_up.new.from in
-      goes_still d (record d { from = from }) (Reading c.args.held) c.args.waits seats net (ap (λ (q : PipeNow). record d { from = q }) c.look_up.ensures.same) p;
-}
+pub wait_for_head-requires-clause-none : goal.wait_for_head-requires-clause-none
+wait_for_head-requires-clause-none g c = none_empty c.args.desk.now.from.bytes (nil_from_length _ (sym c.len.ensures.len ∙ c.if-len-eq0.true))

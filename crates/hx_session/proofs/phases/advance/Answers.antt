@@ -1,4 +1,4 @@
-use Rattle.std.proofs.Common.{◌≡◌, ℕ, List, length, map, sym, ap, subst, ◌∙◌}
+use Rattle.std.proofs.Common.{◌≡◌, ℕ, List, length, map, sym, ap, subst, ◌∙◌, ⊎_elim, inl, inr, Some}
 use Rattle.std.proofs.lemmas.List.{length-map}
 use Rattle.hx_base.specs.declared.numbers.ThreadNo.{ThreadNo}
 use Rattle.hx_link.specs.Nets.{NetState}
@@ -19,6 +19,7 @@ use Rattle.hx_session.proofs.PartingLemmas.{parted}
 use Rattle.hx_session.specs.Picking.{or_chose}
 use Rattle.std.proofs.Common.{Option}
 use Rattle.hx_base.specs.declared.numbers.ServerNo.{ServerNo}
+use Rattle.hx_session.specs.Fits.{limits_with}
 use Rattle.hx_session.proofs.phases.advance.Goals as goal
 
 pub do_phase-came-requires-clause-routed : goal.do_phase-came-requires-clause-routed
@@ -174,3 +175,25 @@ returns-clause-picks g c =
       takes = so.takes;
       picks = c.conclude.ensures.picks k w so.asked (c.move_from_server-came.ensures.picks k w so.asked (c.move_from_client-came.ensures.picks k w so.asked (c.do_phase-came.ensures.picks k w so.asked so.picks)));
     }
+
+pub returns-clause-first : goal.returns-clause-first
+returns-clause-first g c = λ f one.
+    let state = g.L.Link.state in
+    let l = state c.args.desk.now.client in
+    ⊎_elim
+    (λ a.
+    let given = c.move_to_server-came.ensures.first l (c.move_to_client-came.ensures.first l a) in
+    let chosen = c.take_turn-came.ensures.first l (desk_now state c.move_to_server-came.new.desk) given in
+    let read = c.move_from_client-came.ensures.first l (c.do_phase-came.ensures.first l chosen) in
+    inl (c.conclude.ensures.first l (c.move_from_server-came.ensures.first l read)))
+    (λ b. inr b)
+    (c.meet_deadline-came.ensures.first f one)
+
+pub returns-clause-left : goal.returns-clause-left
+returns-clause-left g c =
+    let limits = limits_with (Some c.args.scene.front.now) (Some c.args.scene.back.now) in
+    let moment = c.args.scene.now.0 in
+    let given = c.move_to_server-came.ensures.left limits moment (c.move_to_client-came.ensures.left limits moment c.meet_deadline-came.ensures.left) in
+    let chosen = c.take_turn-came.ensures.left limits moment (desk_now g.L.Link.state c.move_to_server-came.new.desk) given in
+    let read = c.move_from_client-came.ensures.left limits moment (c.do_phase-came.ensures.left limits moment chosen) in
+    c.conclude.ensures.left limits moment (c.move_from_server-came.ensures.left limits moment read)

@@ -14,6 +14,7 @@ use Rattle.hx_session.specs.Picking.{Picks}
 use Rattle.hx_session.specs.Stages.{stage_now}
 use Rattle.std.proofs.Common.{◌∙◌}
 use Rattle.hx_session.proofs.PickLemmas.{done_on, done_left}
+use Rattle.hx_session.specs.Leaving.{CameLeaves}
 use Rattle.hx_session.proofs.phases.conclude.Goals as goal
 
 pub returns-in-Ends-clause-routed : goal.returns-in-Ends-clause-routed
@@ -61,3 +62,6 @@ returns-in-Ends-clause-picks g c = λ k v hs p.
     let news : List History = map f c.give_left.new.seats in
     let ends = subst (λ (x : Came g.row.L.Denot). Picks k v hs x olds) c.in-Ends.is p in
     done_left k v hs news (stage_now c.give_left.result.stage) c.give_left.ensures.stage (λ none. let q = ends none in c.give_left.ensures.seats q.0 ∙ q.1)
+
+pub returns-in-Ends-clause-left : goal.returns-in-Ends-clause-left
+returns-in-Ends-clause-left g c = λ limits moment k. c.give_left.ensures.left limits moment (subst (λ (x : Came g.row.L.Denot). CameLeaves limits moment (desk_now g.L.Link.state c.args.desk.now) x) c.in-Ends.is k)

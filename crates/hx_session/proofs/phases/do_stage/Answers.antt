@@ -1,4 +1,4 @@
-use Rattle.std.proofs.Common.{List, map, sym, subst}
+use Rattle.std.proofs.Common.{List, map, sym, subst, ap, ◌∙◌}
 use Rattle.hx_pool.specs.SeatView.{History}
 use Rattle.hx_connecting.specs.Journals.{room_of}
 use Rattle.hx_connecting.proofs.RoomLemmas.{rooms_none}
@@ -10,6 +10,10 @@ use Rattle.std.proofs.Common.{None}
 use Rattle.hx_link.specs.Nets.{NetState}
 use Rattle.hx_session.specs.declared.stage.Came.TheVariants.{Moved}
 use Rattle.hx_session.proofs.PartLemmas.{goes_to}
+use Rattle.hx_session.specs.First.{IsFresh}
+use Rattle.hx_session.proofs.FirstLemmas.{answering_not}
+use Rattle.hx_session.specs.Exchanged.{exchange_now}
+use Rattle.hx_session.proofs.LeavingLemmas.{told_leaves}
 use Rattle.hx_session.proofs.phases.do_stage.Goals as goal
 
 pub returns-in-Reading : goal.returns-in-Reading
@@ -23,6 +27,8 @@ returns-in-Reading g c =
     record {
       goes = subst (λ (x : Stage g.row.L.Denot). Goes d (stage_now x) seats net d2 c.read_head.result seats net) (sym c.in-Reading.is) (c.read_head.ensures.goes seats net p);
       rooms = rooms_none g.S.HasHistory.history (room_of g.S.HasHistory.kept_from g.S.HasHistory.spare) c.args.seats.now;
+      left = c.read_head.ensures.left;
+      first = λ l x. c.read_head.ensures.first l (subst (λ (y : Stage g.row.L.Denot). IsFresh l d (stage_now y)) c.in-Reading.is x);
     }
 
 pub returns-in-Answering : goal.returns-in-Answering
@@ -36,6 +42,8 @@ returns-in-Answering g c =
     record {
       goes = subst (λ (x : Stage g.row.L.Denot). Goes d (stage_now x) seats net d2 c.end_answering.result seats net) (sym c.in-Answering.is) (c.end_answering.ensures.goes seats net p);
       rooms = rooms_none g.S.HasHistory.history (room_of g.S.HasHistory.kept_from g.S.HasHistory.spare) c.args.seats.now;
+      left = c.end_answering.ensures.left;
+      first = λ l x. absurd (answering_not _ x.held (sym (ap stage_now c.in-Answering.is) ∙ x.is));
     }
 
 pub returns-in-Choosing-clause-goes : goal.returns-in-Choosing-clause-goes
@@ -49,3 +57,9 @@ returns-in-Choosing-clause-goes g c =
     let net2 : NetState = g.N.Net.state c.go_out-stage.new.net in
     subst (λ (x : Stage g.row.L.Denot). Goes d (stage_now x) olds net d2 (Moved c.go_out-stage.result c.args.scene.waits None) news net2) (sym c.in-Choosing.is)
     (goes_to d d2 _ olds news net net2 c.go_out-stage.result c.args.scene.waits c.go_out-stage.ensures.comes c.go_out-stage.ensures.comes.told)
+
+pub returns-in-Exchanging-clause-left : goal.returns-in-Exchanging-clause-left
+returns-in-Exchanging-clause-left g c = λ limits moment.
+    let d : DeskNow = desk_now g.L.Link.state c.args.desk.now in
+    let d2 : DeskNow = desk_now g.L.Link.state c.go_on.new.desk in
+    told_leaves limits moment d d2 d2 (exchange_now c.in-Exchanging.exchange) c.go_on.result c.go_on.ensures.goes.told

@@ -7,6 +7,8 @@ use Rattle.hx_session.proofs.TellLemmas.{end_detached}
 use Rattle.hx_pool.specs.SeatView.{History}
 use Rattle.hx_session.proofs.PartingLemmas.{leaves_then}
 use Rattle.hx_session.proofs.PickLemmas.{closes_none}
+use Rattle.hx_session.specs.Leaving.{LeavesBy}
+use Rattle.hx_session.proofs.LeavingLemmas.{loose_leaves}
 use Rattle.hx_session.proofs.phases.give_left.Goals as goal
 
 pub returns-clause-told : goal.returns-clause-told
@@ -29,3 +31,10 @@ returns-clause-touches g c = λ d0 s0 hs net0 t n p.
 
 pub returns-clause-seats : goal.returns-clause-seats
 returns-clause-seats g c = λ none. closes_none _ _ _ c.args.ending.held _ _ none c.let_go.ensures.closes.closes
+
+pub returns-clause-left : goal.returns-clause-left
+returns-clause-left g c = λ limits moment k.
+    let d : DeskNow = desk_now g.L.Link.state c.args.desk.now in
+    let d2 : DeskNow = desk_now g.L.Link.state c.let_go.new.desk in
+    subst (λ (l : Left). LeavesBy limits moment d2 l.cause) (sym c.leave.ensures)
+    (loose_leaves limits moment d d2 c.args.ending.cause c.let_go.ensures.client c.let_go.ensures.keeps.who.since (ap (λ (x : DeskNow). x.ask_from) c.let_go.ensures.desk) k)

@@ -6,6 +6,8 @@ use Rattle.hx_session.specs.declared.stage.Stage.{Stage}
 use Rattle.hx_session.specs.Desks.{desk_now, DeskNow}
 use Rattle.hx_session.specs.Stages.{stage_now}
 use Rattle.hx_session.specs.Standing.{IsPlaced, Goes}
+use Rattle.hx_session.specs.Exchanged.{exchange_now}
+use Rattle.hx_session.proofs.LeavingLemmas.{told_leaves}
 use Rattle.hx_session.proofs.phases.meet_client_late.Goals as goal
 
 pub returns-in-Reading : goal.returns-in-Reading
@@ -19,6 +21,7 @@ returns-in-Reading g c =
     record {
       goes = subst (λ (x : Stage g.row.L.Denot). Goes d (stage_now x) seats net d2 c.read_late.result seats net) (sym c.in-Reading.is) (c.read_late.ensures.goes seats net p);
       rooms = rooms_none g.S.HasHistory.history (room_of g.S.HasHistory.kept_from g.S.HasHistory.spare) c.args.seats.now;
+      left = λ limits moment k. c.read_late.ensures.left limits moment k;
     }
 
 pub returns-in-Choosing : goal.returns-in-Choosing
@@ -32,6 +35,7 @@ returns-in-Choosing g c =
     record {
       goes = subst (λ (x : Stage g.row.L.Denot). Goes d (stage_now x) seats net d2 c.choose_late.result seats net) (sym c.in-Choosing.is) (c.choose_late.ensures.goes seats net p);
       rooms = rooms_none g.S.HasHistory.history (room_of g.S.HasHistory.kept_from g.S.HasHistory.spare) c.args.seats.now;
+      left = λ limits moment k. c.choose_late.ensures.left limits moment;
     }
 
 pub returns-in-Answering : goal.returns-in-Answering
@@ -45,4 +49,11 @@ returns-in-Answering g c =
     record {
       goes = subst (λ (x : Stage g.row.L.Denot). Goes d (stage_now x) seats net d2 c.leave_answering.result seats net) (sym c.in-Answering.is) (c.leave_answering.ensures.goes seats net p);
       rooms = rooms_none g.S.HasHistory.history (room_of g.S.HasHistory.kept_from g.S.HasHistory.spare) c.args.seats.now;
+      left = λ limits moment k. c.leave_answering.ensures.left limits moment k;
     }
+
+pub returns-in-Exchanging-clause-left : goal.returns-in-Exchanging-clause-left
+returns-in-Exchanging-clause-left g c = λ limits moment k.
+    let d : DeskNow = desk_now g.L.Link.state c.args.desk.now in
+    let d2 : DeskNow = desk_now g.L.Link.state c.cut_late.new.desk in
+    told_leaves limits moment d d2 d2 (exchange_now c.in-Exchanging.exchange) c.cut_late.result c.cut_late.ensures.goes.told

@@ -10,6 +10,8 @@ use Rattle.hx_session.specs.Stages.{stage_now}
 use Rattle.hx_link.specs.Nets.{NetState}
 use Rattle.hx_session.specs.Standing.{Goes, IsPlaced}
 use Rattle.hx_session.proofs.PartLemmas.{goes_still}
+use Rattle.hx_session.specs.Exchanged.{exchange_now}
+use Rattle.hx_session.proofs.LeavingLemmas.{told_leaves}
 use Rattle.hx_session.proofs.phases.meet_server_late.Goals as goal
 
 pub returns-in-Reading-clause-rooms : goal.returns-in-Reading-clause-rooms
@@ -38,3 +40,9 @@ returns-in-Answering-clause-goes g c =
     let stage : Stage g.row.L.Denot = Answering c.in-Answering.answering in
     let placed = subst (λ (x : Stage g.row.L.Denot). IsPlaced d (stage_now x) seats) c.in-Answering.is c.requires.placed in
     subst (λ (x : Stage g.row.L.Denot). Goes d (stage_now x) seats net d (On stage c.args.own.waits) seats net) (sym c.in-Answering.is) (goes_still d d stage c.args.own.waits seats net refl placed)
+
+pub returns-in-Exchanging-clause-left : goal.returns-in-Exchanging-clause-left
+returns-in-Exchanging-clause-left g c = λ limits moment.
+    let d : DeskNow = desk_now g.L.Link.state c.args.desk.now in
+    let d2 : DeskNow = desk_now g.L.Link.state c.end_by_server.new.desk in
+    told_leaves limits moment d d2 d2 (exchange_now c.in-Exchanging.exchange) c.end_by_server.result c.end_by_server.ensures.goes.told

@@ -6,11 +6,14 @@ use Rattle.hx_session.specs.Desks.{desk_now, DeskNow}
 use Rattle.hx_session.specs.Stages.{stage_now}
 use Rattle.hx_session.proofs.StandingLemmas.{place_in}
 use Rattle.hx_session.specs.declared.moves.Move.{Move}
+use Rattle.hx_session.specs.Moves.{ReadsClient}
+use Rattle.hx_session.proofs.FirstLemmas.{failed_read, read_ends, reads_fresh}
 use Rattle.hx_session.proofs.TellLemmas.{DeskTells, reads_told}
 use Rattle.hx_session.proofs.PartLemmas.{took_placed, goes_from_desk}
 use Rattle.hx_session.proofs.ReadLemmas.{reads_keep}
 use Rattle.hx_session.specs.Seen.{conn_seen}
 use Rattle.hx_session.proofs.PickLemmas.{to_same, kind_self}
+use Rattle.hx_session.proofs.LeavingLemmas.{took_fault}
 use Rattle.hx_session.proofs.phases.take_some.Goals as goal
 
 pub returns-in-Bytes : goal.returns-in-Bytes
@@ -30,6 +33,8 @@ returns-in-Bytes g c =
         told = subst (λ (x : Move). DeskTells x d (stage_now c.args.stage) d2) c.in-Bytes.is (reads_told d d2 (stage_now c.args.stage) c.args.at.now.0 c.read_client.result c.read_client.ensures.reads);
       };
       rooms = rooms_none g.S.HasHistory.history (room_of g.S.HasHistory.kept_from g.S.HasHistory.spare) c.args.seats.now;
+      left = λ limits moment. tt;
+      first = λ l f. (reads_fresh l d d2 (stage_now c.args.stage) c.args.at.now.0 c.read_client.result f c.read_client.ensures.reads).1;
     }
 
 pub returns-in-Ended : goal.returns-in-Ended
@@ -49,6 +54,8 @@ returns-in-Ended g c =
         told = subst (λ (x : Move). DeskTells x d (stage_now c.args.stage) d2) c.in-Ended.is (reads_told d d2 (stage_now c.args.stage) c.args.at.now.0 c.read_client.result c.read_client.ensures.reads);
       };
       rooms = rooms_none g.S.HasHistory.history (room_of g.S.HasHistory.kept_from g.S.HasHistory.spare) c.args.seats.now;
+      left = λ limits moment. tt;
+      first = λ l f. (reads_fresh l d d2 (stage_now c.args.stage) c.args.at.now.0 c.read_client.result f c.read_client.ensures.reads).1;
     }
 
 pub returns-in-Idle : goal.returns-in-Idle
@@ -68,6 +75,8 @@ returns-in-Idle g c =
         told = subst (λ (x : Move). DeskTells x d (stage_now c.args.stage) d2) c.in-Idle.is (reads_told d d2 (stage_now c.args.stage) c.args.at.now.0 c.read_client.result c.read_client.ensures.reads);
       };
       rooms = rooms_none g.S.HasHistory.history (room_of g.S.HasHistory.kept_from g.S.HasHistory.spare) c.args.seats.now;
+      left = λ limits moment. tt;
+      first = λ l f. absurd ((reads_fresh l d d2 (stage_now c.args.stage) c.args.at.now.0 c.read_client.result f c.read_client.ensures.reads).0 c.in-Idle.is);
     }
 
 pub returns-in-Waits : goal.returns-in-Waits
@@ -87,6 +96,8 @@ returns-in-Waits g c =
         told = subst (λ (x : Move). DeskTells x d (stage_now c.args.stage) d2) c.in-Waits.is (reads_told d d2 (stage_now c.args.stage) c.args.at.now.0 c.read_client.result c.read_client.ensures.reads);
       };
       rooms = rooms_none g.S.HasHistory.history (room_of g.S.HasHistory.kept_from g.S.HasHistory.spare) c.args.seats.now;
+      left = λ limits moment. tt;
+      first = λ l f. ((reads_fresh l d d2 (stage_now c.args.stage) c.args.at.now.0 c.read_client.result f c.read_client.ensures.reads).1, (f.held, f.is));
     }
 
 pub leave_or_cut-requires : goal.leave_or_cut-requires
@@ -94,7 +105,7 @@ leave_or_cut-requires g c =
     let d : DeskNow = desk_now g.L.Link.state c.args.desk.now in
     let d2 : DeskNow = desk_now g.L.Link.state c.read_client.new.desk in
     let seats : List History = map g.S.HasHistory.history c.args.seats.now in
-    record { placed = took_placed d d2 (stage_now c.args.stage) c.args.at.now.0 c.read_client.result seats c.read_client.ensures.desk c.read_client.ensures.reads c.requires.wants c.requires.placed }
+    record { placed = took_placed d d2 (stage_now c.args.stage) c.args.at.now.0 c.read_client.result seats c.read_client.ensures.desk c.read_client.ensures.reads c.requires.wants c.requires.placed; fault = took_fault d d2 c.args.at.now.0 (subst (λ (x : Move). ReadsClient d d2 c.args.at.now.0 x) c.in-Failed.is c.read_client.ensures.reads) }
 
 pub returns-in-Failed : goal.returns-in-Failed
 returns-in-Failed g c =
@@ -109,4 +120,7 @@ returns-in-Failed g c =
           (reads_keep d d2 c.args.at.now.0 c.read_client.result c.read_client.ensures.reads).desk (reads_keep d d2 c.args.at.now.0 c.read_client.result c.read_client.ensures.reads).number c.leave_or_cut.ensures.goes
           (subst (λ (x : Move). DeskTells x d (stage_now c.args.stage) d2) c.in-Failed.is (reads_told d d2 (stage_now c.args.stage) c.args.at.now.0 c.read_client.result c.read_client.ensures.reads));
       rooms = c.leave_or_cut.ensures.rooms;
+      left = c.leave_or_cut.ensures.left;
+      first = λ l f. read_ends l d3 c.leave_or_cut.result (c.leave_or_cut.ensures.leaves f.held f.is)
+          (failed_read l d d2 d3 (stage_now c.args.stage) c.args.at.now.0 f (subst (λ (x : Move). ReadsClient d d2 c.args.at.now.0 x) c.in-Failed.is c.read_client.ensures.reads) c.leave_or_cut.ensures.goes.keeps.desk.who.client);
     }

@@ -1,4 +1,4 @@
-use Rattle.std.proofs.Common.{◌≡◌, Some, ◌∙◌, ◌<◌, arith, get_or, ℕ, List, length, map, refl, sym, ap, subst, true, None}
+use Rattle.std.proofs.Common.{◌≡◌, Some, ◌∙◌, ◌<◌, arith, get_or, ℕ, List, length, map, refl, sym, ap, subst, true, None, ⊎_elim, inl, inr, ◌⊎◌}
 use Rattle.std.proofs.lemmas.List.{length-map}
 use Rattle.hx_config.specs.declared.config.Config.{Config}
 use Rattle.hx_config.specs.declared.parts.Back.{Back}
@@ -39,6 +39,18 @@ use Rattle.hx_session.specs.Picked.{StepPicks}
 use Rattle.hx_session.specs.Picking.{PicksAll}
 use Rattle.hx_session.proofs.ChosenLemmas.{step_picks}
 use Rattle.hx_session.proofs.EntryLemmas.{below}
+use Rattle.hx_base.specs.declared.numbers.Millis.{Millis}
+use Rattle.std.specs.Prelude.{Option}
+use Rattle.hx_session.specs.Causes.{CanBeLate, HasCome}
+use Rattle.hx_session.specs.First.{IsFresh}
+use Rattle.hx_session.specs.Fits.{limits_of}
+use Rattle.hx_session.specs.Steps.{IsNew, ReadsFirst}
+use Rattle.hx_session.proofs.FirstLemmas.{limits_are, new_fresh}
+use Rattle.std.specs.Prelude.{IfSome}
+use Rattle.hx_session.specs.Causes.{Limits, LeavesFor}
+use Rattle.hx_session.specs.Fits.{limits_with}
+use Rattle.hx_session.specs.Leaving.{LeavesBy}
+use Rattle.hx_session.proofs.LeavingLemmas.{leaves_for_cause, limits_same}
 use Rattle.hx_session.proofs.session.Session.step.Goals as goal
 
 pub advance-stage-requires : goal.advance-stage-requires
@@ -227,3 +239,37 @@ returns-then-is_over-clause-same g c =
       about = refl;
       loop_no = refl;
     }
+
+pub returns-clause-first : goal.returns-clause-first
+returns-clause-first g c = λ n.
+    let front = c.self.inside.front in
+    let d : DeskNow = desk_now g.L.Link.state c.self.inside.desk in
+    let d2 : DeskNow = desk_now g.L.Link.state c.advance-stage.new.desk in
+    let s : StageNow = stage_now c.self.inside.stage in
+    let s2 : StageNow = stage_now c.advance-stage.result.stage in
+    let config = c.args.config.now in
+    let now = c.args.now.0 in
+    let scene = c.scene_of-scene in
+    let new = new_fresh front d s c.self.invariant (subst (λ (x : SessionNow). IsNew x) (sym c.self.view_is) n) in
+    let fresh = subst (λ (x : Stage g.row.L.Denot). IsFresh d.client d (stage_now x)) (sym c.replace-stage.ensures.value) new.0 in
+    let limits = limits_are (meaning config) front scene.result.front.now scene.result.back.now scene.ensures.front scene.ensures.back in
+    subst (λ (x : SessionNow). ReadsFirst x (session_seen front d2 s2) ⊎ CanBeLate (limits_of (meaning config) x.front).client x now) c.self.view_is
+    (⊎_elim (λ a. inl a) (λ b. inr (subst (λ (o : Option Millis). HasCome o d.since.0 now) (sym limits) (subst (λ (m : Millis). HasCome scene.result.front.now.client d.since.0 m.0) scene.ensures.now b))) (c.advance-stage.ensures.first fresh new.1))
+
+pub returns-clause-leaves : goal.returns-clause-leaves
+returns-clause-leaves g c = λ going.
+    let front = c.self.inside.front in
+    let d : DeskNow = desk_now g.L.Link.state c.self.inside.desk in
+    let d2 : DeskNow = desk_now g.L.Link.state c.advance-stage.new.desk in
+    let s : StageNow = stage_now c.self.inside.stage in
+    let done = c.advance-stage.result in
+    let s2 : StageNow = stage_now done.stage in
+    let config = c.args.config.now in
+    let now = c.args.now.0 in
+    let scene = c.scene_of-scene in
+    let told = subst (λ (x : Stage g.row.L.Denot). DoneTells d (stage_now x) d2 done.served done.left) c.replace-stage.ensures.value c.advance-stage.ensures.told in
+    let left = subst (λ (m : Millis). IfSome done.left (λ l. LeavesBy (limits_with (Some scene.result.front.now) (Some scene.result.back.now)) m.0 d2 l.cause)) scene.ensures.now c.advance-stage.ensures.left in
+    let limits = limits_same (meaning config) front scene.result.front.now scene.result.back.now scene.ensures.front scene.ensures.back in
+    subst (λ (x : SessionNow). IfSome done.left (λ l. LeavesFor (limits_of (meaning config) x.front) x (session_seen front d2 s2) done.served now l.cause)) c.self.view_is
+    (subst (λ (k : Limits). IfSome done.left (λ l. LeavesFor k (session_seen front d s) (session_seen front d2 s2) done.served now l.cause)) (sym limits)
+    (leaves_for_cause (limits_with (Some scene.result.front.now) (Some scene.result.back.now)) now front d d2 s s2 done.served done.left c.advance-stage.ensures.keeps.who.since told left))

@@ -1,0 +1,4 @@
+use Rattle.hx_session.proofs.phases.end_answering.Goals as goal
+
+pub returns-clause-left : goal.returns-clause-left
+returns-clause-left g c = λ limits moment. c.leave_answering.ensures.left limits moment tt
