@@ -1,0 +1,38 @@
+-- The lines that the calls of a course tell.
+use Rattle.std.specs.Prelude.{◌≡◌, ◌≤◌, false, List, [], ◌∷◌, ◌++◌, Option, Some, None, IfSome, ⊤}
+use Rattle.hx_base.specs.declared.numbers.SessionNo.{SessionNo}
+use Rattle.hx_base.specs.declared.numbers.ThreadNo.{ThreadNo}
+use Rattle.hx_record.specs.Tiles.{is_line_of}
+use Rattle.hx_record.specs.declared.served.Left.{Left}
+use Rattle.hx_record.specs.declared.served.Served.{Served}
+use Rattle.hx_record.specs.declared.served.Told.{Told}
+use Rattle.hx_record.specs.declared.served.Told.TheVariants as told
+
+-- the record of an exchange, if there is one
+abbrev pub served_line : Option Served → List Told
+served_line None = []
+served_line (Some r) = told.Served r ∷ []
+
+-- the end of a session, if it is told
+abbrev pub left_line : Option Left → List Told
+left_line None = []
+left_line (Some l) = told.Left l ∷ []
+
+-- what a step or a stop tells, in order
+abbrev pub lines_of : Option Served → Option Left → List Told
+lines_of served left = served_line served ++ left_line left
+
+-- each line is one of another session
+abbrev pub AreApart : ThreadNo → SessionNo → List Told → Type 0
+AreApart t n [] = ⊤
+AreApart t n (x ∷ lines) = (is_line_of t n x ≡ false) × AreApart t n lines
+
+-- the ranges of a record at its client's link end no earlier than they begin
+pub record Rises (r : Served) : Type 0 where
+  pub ask : r.ask.from ≤ r.ask.to
+  pub gave : r.gave.from ≤ r.gave.to
+
+-- what a call tells has such ranges
+pub record TellsRising (served : Option Served) (left : Option Left) : Type 0 where
+  pub record_rises : IfSome served Rises
+  pub left_rises : IfSome left (λ l. l.ask.from ≤ l.ask.to)
