@@ -22,18 +22,13 @@ use Rattle.hx_worker.specs.Workers.{session_of, NumbersRise}
 use Rattle.hx_course.specs.Clients.{CoversOf, IsTiled, IsGone, KeepsClients}
 use Rattle.hx_course.specs.Graves.{Owner, OfClient, OfConn, Grave, grave, conn_graves, client_graves}
 use Rattle.hx_course.specs.Lines.{served_line, left_line, lines_of, AreApart, TellsRising}
+use Rattle.hx_course.proofs.TableLemmas.{none_in, one_in}
 use Rattle.hx_course.proofs.LineLemmas.{lines_apart, covers_on, tiled_on, served_covers, left_tiles}
 use Rattle.hx_record.specs.Covers.{CoversClient}
 use Rattle.hx_record.proofs.Following.{covers_none}
 use Rattle.hx_course.proofs.Numbers.{some_is, found_number, found_low, none_above, number_is, session_more, session_none}
 
 -- ---- graves
-
-pub none_in : {A : Type 0} (x : A) → Contains [] x → ⊥
-none_in x c = let low = c.1 in omega arith
-
-pub one_in : {A : Type 0} (x y : A) → Contains (x ∷ []) y → x ≡ y
-one_in x y c = ⊎_elim (λ (n : Contains [] y). absurd (none_in y n)) (λ (e : x ≡ y). e) (Contains-push_cases [] x y c)
 
 -- a connection's grave is none of a client's
 pub not_conn : (server : ServerNo) (id : ConnId) (o : Option LinkState) (t : ThreadNo) (n : SessionNo) (l : LinkState) → Contains (conn_graves server id o) (grave (OfClient t n) l) → ⊥
@@ -73,7 +68,7 @@ over_tiles a (Some l) served records over e rises c =
     (left_tiles a l (records ++ served_line served) e rises c)
 
 module _ (t : ThreadNo) (last : ℕ) (ss : List SessionNow) (s a : SessionNow) (conn : Option What) (served : Option Served) (left : Option Left) (records : List Told) (graves : List Grave)
-    (server : ServerNo) (id : ConnId) (gone : Option LinkState) (rise : NumbersRise 0 ss last) (its : s.worker ≡ t) (there : session_of ss s.number.0 ≡ Some s)
+    (closed : List Grave) (no_client : (u : ThreadNo) (n : SessionNo) (l : LinkState) → Contains closed (grave (OfClient u n) l) → ⊥) (rise : NumbersRise 0 ss last) (its : s.worker ≡ t) (there : session_of ss s.number.0 ≡ Some s)
     (worker : a.worker ≡ s.worker) (number : a.number ≡ s.number) (told : RecordsTold s a conn left served) (leaves : Leaves a left) (rises : TellsRising served left)
     (keeps : KeepsClients t last ss records graves) where
 
@@ -128,22 +123,22 @@ module _ (t : ThreadNo) (last : ℕ) (ss : List SessionNow) (s a : SessionNow) (
     tiled = over_tiles a left served records over leaves rises.left_rises covered;
   }
 
-  buried_after : (u : ThreadNo) (n : SessionNo) (l : LinkState) → Contains (graves ++ (conn_graves server id gone ++ client_graves a.over a)) (grave (OfClient u n) l)
+  buried_after : (u : ThreadNo) (n : SessionNo) (l : LinkState) → Contains (graves ++ (closed ++ client_graves a.over a)) (grave (OfClient u n) l)
       → IsGone t last (placed ss a) (records ++ lines) u n l
   buried_after u n l c =
       let g = grave (OfClient u n) l in
       ⊎_elim (λ (old : Contains graves g). gone_stays u n l (keeps.buried u n l old))
-      (λ (new : Contains (conn_graves server id gone ++ client_graves a.over a) g).
-      ⊎_elim (λ (k : Contains (conn_graves server id gone) g). absurd (not_conn server id gone u n l k))
+      (λ (new : Contains (closed ++ client_graves a.over a) g).
+      ⊎_elim (λ (k : Contains closed g). absurd (no_client u n l k))
       (λ (k : Contains (client_graves a.over a) g).
       let is = its_client a.over a u n l k in
       subst (λ (x : ThreadNo). IsGone t last (placed ss a) (records ++ lines) x n l) (sym is.1)
       (subst (λ (x : SessionNo). IsGone t last (placed ss a) (records ++ lines) a.worker x l) (sym is.2)
       (subst (λ (x : LinkState). IsGone t last (placed ss a) (records ++ lines) a.worker a.number x) (sym is.3) (gone_now is.0))))
-      (Contains-append_cases (conn_graves server id gone) (client_graves a.over a) g new))
-      (Contains-append_cases graves (conn_graves server id gone ++ client_graves a.over a) g c)
+      (Contains-append_cases closed (client_graves a.over a) g new))
+      (Contains-append_cases graves (closed ++ client_graves a.over a) g c)
 
-  pub clients_go : KeepsClients t last (placed ss a) (records ++ lines) (graves ++ (conn_graves server id gone ++ client_graves a.over a))
+  pub clients_go : KeepsClients t last (placed ss a) (records ++ lines) (graves ++ (closed ++ client_graves a.over a))
   clients_go = record {
     there = there_after;
     fresh = λ n above. covers_on t n records lines 0 0 0 (others t n (λ e. omega (arith, low))) (keeps.fresh n above);

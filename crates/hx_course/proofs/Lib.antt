@@ -1,3 +1,6 @@
 pub mod Numbers
+pub mod TableLemmas
 pub mod LineLemmas
 pub mod ClientLemmas
+pub mod TruthLemmas
+pub mod GoingLemmas

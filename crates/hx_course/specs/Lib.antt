@@ -4,4 +4,7 @@ pub use Rattle.hx_worker.specs.Cares
 pub use Rattle.hx_worker.specs.Admitting
 pub mod Lines
 pub mod Graves
+pub mod Places
 pub mod Clients
+pub mod Truths
+pub mod Calls
