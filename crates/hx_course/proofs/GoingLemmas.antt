@@ -1,6 +1,6 @@
 -- A call of one session: each link is somewhere still, with bytes behind its bytes.
 use Rattle.std.proofs.Common.{◌≡◌, ◌⊎◌, ⊎_elim, inl, inr, ℕ, zero, suc, ◌+◌, Bool, true, false, List, [], ◌∷◌, ◌++◌, refl, sym, ap, ◌∙◌, subst, arith, Option, Some, None, eq-eqb, ne_eqb}
-use Rattle.std.specs.Prelude.{Contains, slice_get, if◌then◌else◌, ◌==◌}
+use Rattle.std.specs.Prelude.{IfSome, ◌&&◌, Contains, slice_get, if◌then◌else◌, ◌==◌}
 use Rattle.std.proofs.lemmas.List.Elements.{Contains-append_left, Contains-append_right, Contains-push}
 use mathlib.Core.Logic.{dite}
 use native.Mathlib.Decide.{ℕ_discrete}
@@ -20,18 +20,38 @@ use Rattle.hx_pool.specs.History.{marks_of, table_after, what_of}
 use Rattle.hx_pool.specs.SeatView.{History, Makes}
 use Rattle.hx_pool.specs.Table.{Table, IdleAt}
 use Rattle.hx_pool.proofs.Tables.{sound_at}
+use Rattle.hx_base.specs.declared.what.LinkTold.{LinkTold}
+use Rattle.hx_record.specs.Carriage.{Carriage}
+use Rattle.hx_record.specs.Tiles.{is_of}
+use Rattle.hx_record.specs.Truth.{RecountsBytes, IsTrueCut, IsTrueOwn}
+use Rattle.hx_record.specs.declared.served.Carried.{Carried}
+use Rattle.hx_record.specs.declared.served.CutCause.{CutCause}
+use Rattle.hx_record.specs.declared.served.Kind.{Kind}
+use Rattle.hx_record.specs.declared.served.Kind.TheVariants as kind
+use Rattle.hx_record.specs.declared.served.Left.{Left}
+use Rattle.hx_record.specs.declared.served.LeftCause.{LeftCause}
+use Rattle.hx_record.specs.declared.served.LeftCause.TheVariants as cause
+use Rattle.hx_record.specs.declared.served.Served.{Served}
+use Rattle.hx_record.specs.declared.served.Told.{Told}
+use Rattle.hx_record.specs.declared.served.Told.TheVariants as line
+use Rattle.hx_connecting.specs.Exchanges.{IsClosed}
+use Rattle.hx_connecting.specs.Ways.{IsOwn}
+use Rattle.hx_session.specs.Records.{WhereTold, told_of, carriage_of, no_carriage, leaves_for, ItsExchange, EndsSession, LeftStands, Leaves, ends_after, cut_ends}
+use Rattle.hx_session.specs.Telling.{KindTold, RecordTold, RecordsTold}
+use Rattle.hx_course.specs.Lines.{served_line, left_line, lines_of}
+use Rattle.hx_course.specs.Truths.{left_open, WhereBoth, IsTrueOpen, IsTrueEnded, PassedNow, CutNow, OwnNow, IsTrueNow}
 use Rattle.hx_connecting.specs.Links.{NoLinkGoes, IsSameLink, GoesOn, HasIt, TellsBefore, TellsAfter, IsBuried}
-use Rattle.hx_connecting.specs.Sessions.{SessionNow, Holding, conn_id, conn_link, conn_server}
+use Rattle.hx_connecting.specs.Sessions.{SessionNow, Holding, Exchanging, conn_id, conn_link, conn_server}
 use Rattle.hx_connecting.specs.Touches.{Came, Had, Opened, Took, Went, Stays, Rests, Ends, EndsTakenBack, Touch, Adds, AddsEach, HasMarks, came_marks, went_marks, touch_marks, marks_at}
 use Rattle.hx_worker.proofs.ByNumber.{placed_other, placed_same, if_going}
 use Rattle.hx_worker.specs.Steps.{placed}
 use Rattle.hx_worker.specs.Workers.{session_of, NumbersRise}
-use Rattle.hx_course.specs.Calls.{AreAlone, HadFor, TookLast, TouchGoes, CallGoes, touched_graves, call_graves}
+use Rattle.hx_course.specs.Calls.{EndsExchange, AreAlone, HadFor, TookLast, TouchGoes}
 use Rattle.hx_course.specs.Graves.{Grave, OfClient, OfConn, grave, conn_graves, client_graves}
 use Rattle.hx_course.specs.Places.{IsClientOf, ClientIs, IsHeld, IsAtRest, IsInGrave, ConnIs, BytesGrow, LinksGoOn}
 use Rattle.hx_course.proofs.Numbers.{some_is, number_is}
 use Rattle.hx_course.proofs.TableLemmas.{table_alone, legal_alone, Spares, AllSpare, IsSameAt, spared, no_park, no_close, no_open, park_rests}
-use Rattle.hx_course.proofs.TruthLemmas.{told_same, link_grows}
+use Rattle.hx_course.proofs.TruthLemmas.{told_same, link_grows, passed_ended, cut_open, own_open}
 
 -- ---- seats and entries by number
 
@@ -118,6 +138,12 @@ had_before s h y Had w c e t =
     (ap conn_server (sym same) ∙ t.1.1, ap conn_id (sym same) ∙ t.1.2, t.2 ∙ ap (λ (k : Holding). Some (what_of_link (conn_link k))) same)
 had_before s h y Opened w c e t = let no = sym e ∙ t.0 in cc
 had_before s h y (Took place uses) w c e t = let no = sym e ∙ t.0 in cc
+
+own_line : (t u : ThreadNo) (n m : SessionNo) → t ≡ u → n ≡ m → is_of t n u m ≡ true
+own_line t u n m e f =
+    let a : (t.0 == u.0) ≡ true = eq-eqb t.0 u.0 (ap (λ (k : ThreadNo). k.0) e) in
+    let b : (n.0 == m.0) ≡ true = eq-eqb n.0 m.0 (ap (λ (k : SessionNo). k.0) f) in
+    ap (λ (c : Bool). c && (n.0 == m.0)) a ∙ b
 
 module _ (ss : List SessionNow) (last : ℕ) (s a : SessionNow) (seats seats' : List History) (added : List (List Note)) (first : Bool) (net net' : NetState) (x : Option Touch)
     (graves graves' : List Grave) (rise : NumbersRise 0 ss last) (there : session_of ss s.number.0 ≡ Some s) (worker : a.worker ≡ s.worker) (number : a.number ≡ s.number)
@@ -320,3 +346,146 @@ module _ (ss : List SessionNow) (last : ℕ) (s a : SessionNow) (seats seats' : 
 
   pub links_on : LinksGoOn ss ss' seats seats' graves graves'
   links_on = record { clients = client_on; conns = conn_on; stay = old_grave }
+
+  -- ---- the record that the call gives
+
+  -- where the touched connection was closed its link is buried
+  closed_place : (y : Touch) (k : TouchGoes s a seats seats' added net net' y) (is : x ≡ Some y) (closes : (l : LinkState) → k.goes.gone ≡ Some l → Contains graves' (grave (OfConn y.server y.id) l))
+      (w : Went) → IsClosed w → TellsAfter a k.es y w k.goes.gone k.goes.after → (u : What) → k.goes.after ≡ Some u → IsInGrave graves' y.server y.id u
+  closed_place y k is closes Stays c t u after = absurd c
+  closed_place y k is closes (Rests place uses) c t u after = absurd c
+  closed_place y k is closes Ends c t u after = buried_place y k is closes k.goes.gone u u refl t.1 after
+  closed_place y k is closes (EndsTakenBack place uses) c t u after = buried_place y k is closes k.goes.gone u u refl t.1 after
+
+  module _ (records : List Told) (conn : Option What) (left : Option Left) (r : Served) (told : RecordsTold s a conn left (Some r)) (leaves : Leaves a left)
+      (own : x ≡ None → IsOwn r.kind) (conn_after : (y : Touch) (is : x ≡ Some y) → conn ≡ (some y is).0.goes.after) (ends : (y : Touch) → x ≡ Some y → EndsExchange y.went a.client conn r r.kind) where
+
+    abbrev lines : List Told
+    lines = lines_of (Some r) left
+
+    abbrev why : LeftCause
+    why = leaves_for left
+
+    r_worker : a.worker ≡ r.worker
+    r_worker = worker ∙ sym told.worker
+
+    r_session : a.number ≡ r.session
+    r_session = number ∙ sym told.session
+
+    of_client : ClientIs ss' graves' r.worker r.session a.client
+    of_client = subst (λ (t : ThreadNo). ClientIs ss' graves' t r.session a.client) r_worker (subst (λ (n : SessionNo). ClientIs ss' graves' a.worker n a.client) r_session client_now)
+
+    of_grave : a.over ≡ true → Contains graves' (grave (OfClient r.worker r.session) a.client)
+    of_grave over = subst (λ (t : ThreadNo). Contains graves' (grave (OfClient t r.session) a.client)) r_worker
+        (subst (λ (n : SessionNo). Contains graves' (grave (OfClient a.worker n) a.client)) r_session (client_grave over))
+
+    -- the connection of the record's exchange, and where its link is
+    record ItsConn (c : Carried) : Type 0 where
+      y : Touch
+      is : x ≡ Some y
+      u : What
+      after : conn ≡ Some u
+      place : ConnIs ss' seats' graves' c.server c.id u
+      closed : IsClosed y.went → IsInGrave graves' c.server c.id u
+
+    its_conn : (c : Carried) → ItsExchange s c → (IsOwn r.kind → ⊥) → ItsConn c
+    its_conn c its not_own = by_touch x refl
+      where
+        by_touch : (o : Option Touch) → x ≡ o → ItsConn c
+        by_touch None e = absurd (not_own (own e))
+        by_touch (Some y) e =
+            let k = (some y e).0 in
+            let closes = (some y e).1 in
+            let b = had_before s k.history y y.came k.goes.before (Exchanging its.0) its.1 k.goes.was in
+            let t = touched_on y k e closes (what_of_link its.0.link) b.2 in
+            let server : y.server ≡ c.server = sym b.0 ∙ sym its.2.server in
+            let id : y.id ≡ c.id = sym b.1 ∙ sym its.2.id in record {
+              y = y;
+              is = e;
+              u = t.0;
+              after = conn_after y e ∙ t.3;
+              place = subst (λ (n : ServerNo). ConnIs ss' seats' graves' n c.id t.0) server (subst (λ (i : ConnId). ConnIs ss' seats' graves' y.server i t.0) id t.1);
+              closed = λ w.
+                  subst (λ (n : ServerNo). IsInGrave graves' n c.id t.0) server
+                  (subst (λ (i : ConnId). IsInGrave graves' y.server i t.0) id (closed_place y k e closes y.went w k.goes.is t.0 t.3));
+            }
+
+    -- what was said of the bytes after the call
+    both_told : (u : What) (P : LinkTold → LinkTold → Type 0) → conn ≡ Some u
+        → WhereTold (what_of_link a.client).told (λ v. WhereTold (told_of conn) (λ w. RecountsBytes r.kind r v w why))
+        → ((v w : LinkTold) → RecountsBytes r.kind r (carriage_of v) (carriage_of w) why → P v w) → WhereBoth a.client u P
+    both_told u P e t f = by_told (what_of_link a.client).told u.told
+        (subst (λ (o : Option What). WhereTold (what_of_link a.client).told (λ v. WhereTold (told_of o) (λ w. RecountsBytes r.kind r v w why))) e t)
+      where
+        by_told : (o p : Option LinkTold) → WhereTold o (λ v. WhereTold p (λ w. RecountsBytes r.kind r v w why)) → IfSome o (λ v. IfSome p (λ w. P v w))
+        by_told None p q = tt
+        by_told (Some v) None q = tt
+        by_told (Some v) (Some w) q = f v w q
+
+    as_kind : (k : Kind) → r.kind ≡ k → (v w : Carriage) → RecountsBytes r.kind r v w why → RecountsBytes k r v w why
+    as_kind k e v w t = subst (λ (q : Kind). RecountsBytes q r v w why) e t
+
+    not_own : (k : Kind) → r.kind ≡ k → (IsOwn k → ⊥) → IsOwn r.kind → ⊥
+    not_own k e f o = f (subst (λ (q : Kind). IsOwn q) e o)
+
+    -- a record that ends its session comes with the Left
+    leaves_over : (o : Option Left) → left ≡ o → (w : LeftCause) → EndsSession (Some w) o → (l : Left) × (left ≡ Some l) × LeftStands a l
+    leaves_over o e w k = (k.0, e ∙ k.1, subst (λ (q : Option Left). Leaves a q) (e ∙ k.1) leaves)
+
+    ends_with : (k : Kind) → r.kind ≡ k → (w : LeftCause) → ends_after k ≡ Some w → (l : Left) × (left ≡ Some l) × LeftStands a l
+    ends_with k e w f = leaves_over left refl w (subst (λ (o : Option LeftCause). EndsSession o left) (ap ends_after e ∙ f) told.ends)
+
+    passed_now : (c : Carried) → r.kind ≡ kind.Passed c → ItsExchange s c → WhereTold (what_of_link a.client).told (λ v. WhereTold (told_of conn) (λ w. RecountsBytes r.kind r v w why))
+        → PassedNow ss' seats' graves' r c
+    passed_now c e its t =
+        let i = its_conn c its (not_own (kind.Passed c) e (λ o. o)) in
+        let end : IsClosed i.y.went ⊎ ((v : What) × (conn ≡ Some v) × WhereBoth a.client v (IsTrueOpen r c)) = subst (λ (q : Kind). EndsExchange i.y.went a.client conn r q) e (ends i.y i.is) in record {
+          client = a.client;
+          of_client = of_client;
+          conn = i.u;
+          stands = ⊎_elim
+              (λ (w : IsClosed i.y.went). inr (i.closed w, both_told i.u (IsTrueEnded r c) i.after t (λ v z q. passed_ended r c v z (as_kind (kind.Passed c) e (carriage_of v) (carriage_of z) q))))
+              (λ (o : (v : What) × (conn ≡ Some v) × WhereBoth a.client v (IsTrueOpen r c)).
+              let same : o.0 ≡ i.u = some_is o.0 i.u (sym o.1 ∙ i.after) in
+              inl (i.place, subst (λ (v : What). WhereBoth a.client v (IsTrueOpen r c)) same o.2))
+              end;
+        }
+
+    cut_now : (c : Carried) (w : CutCause) → r.kind ≡ kind.Cut c w → ItsExchange s c → WhereTold (what_of_link a.client).told (λ v. WhereTold (told_of conn) (λ z. RecountsBytes r.kind r v z why))
+        → CutNow graves' r c w
+    cut_now c w e its t =
+        let i = its_conn c its (not_own (kind.Cut c w) e (λ o. o)) in
+        let end : IsClosed i.y.went = subst (λ (q : Kind). EndsExchange i.y.went a.client conn r q) e (ends i.y i.is) in
+        let l = ends_with (kind.Cut c w) e (cut_ends w) refl in record {
+          client = a.client;
+          of_client = of_grave l.2.over;
+          conn = i.u;
+          of_conn = i.closed end;
+          is_true = both_told i.u (λ v z. IsTrueCut r c w (left_open v) (carriage_of z)) i.after t (λ v z q. cut_open r c w v z (as_kind (kind.Cut c w) e (carriage_of v) (carriage_of z) q));
+        }
+
+    own_now : (status : ℕ) → r.kind ≡ kind.Own status → WhereTold (what_of_link a.client).told (λ v. RecountsBytes r.kind r v no_carriage why) → OwnNow (records ++ lines) graves' r status
+    own_now status e t =
+        let l = ends_with (kind.Own status) e cause.Own refl in
+        let cause_is : why ≡ l.0.cause = ap leaves_for l.1 in
+        let here : Contains lines (line.Left l.0) = Contains-append_right (served_line (Some r)) (left_line left) (line.Left l.0) (subst (λ (o : Option Left). Contains (left_line o) (line.Left l.0)) (sym l.1) (Contains-push [] (line.Left l.0))) in record {
+          client = a.client;
+          of_client = of_grave l.2.over;
+          left = l.0;
+          left_told = Contains-append_right records lines (line.Left l.0) here;
+          its_left = own_line r.worker l.0.worker r.session l.0.session (told.worker ∙ (sym worker ∙ sym l.2.worker)) (told.session ∙ (sym number ∙ sym l.2.session));
+          is_true = by_told (what_of_link a.client).told t l.0.cause cause_is;
+        }
+      where
+        by_told : (o : Option LinkTold) → WhereTold o (λ v. RecountsBytes r.kind r v no_carriage why) → (w : LeftCause) → why ≡ w → IfSome o (λ v. IsTrueOwn r status (left_open v) w)
+        by_told None q w f = tt
+        by_told (Some v) q w f =
+            own_open r status v w (subst (λ (z : LeftCause). IsTrueOwn r status (carriage_of v) z) f (as_kind (kind.Own status) e (carriage_of v) no_carriage q))
+
+    kind_now : (k : Kind) → r.kind ≡ k → KindTold s a conn why r k → IsTrueNow ss' seats' (records ++ lines) graves' r k
+    kind_now (kind.Passed c) e t = passed_now c e t.0 t.1
+    kind_now (kind.Cut c w) e t = cut_now c w e t.0 t.1
+    kind_now (kind.Own status) e t = own_now status e t.1
+
+    pub record_now : IsTrueNow ss' seats' (records ++ lines) graves' r r.kind
+    record_now = kind_now r.kind refl told.kind

@@ -4,3 +4,4 @@ pub mod LineLemmas
 pub mod ClientLemmas
 pub mod TruthLemmas
 pub mod GoingLemmas
+pub mod StepLemmas

@@ -1,16 +1,40 @@
 -- What a course takes of a session's call: how the link of the connection that it touched goes, and which links it buries.
-use Rattle.std.specs.Prelude.{◌≡◌, ℕ, List, [], ◌++◌, Option, Some, None, slice_get, ⊤}
+use Rattle.std.specs.Prelude.{◌≡◌, ◌⊎◌, ℕ, List, [], ◌++◌, true, Option, IfSome, Some, None, slice_get, ⊤}
 use Rattle.hx_base.specs.declared.numbers.ConnId.{ConnId}
 use Rattle.hx_base.specs.declared.numbers.ServerNo.{ServerNo}
+use Rattle.hx_base.specs.declared.numbers.SessionNo.{SessionNo}
 use Rattle.hx_base.specs.declared.what.What.{What}
+use Rattle.hx_conn.specs.Conns.{BusyNow}
+use Rattle.hx_conn.specs.WhatTold.{what_of_link}
 use Rattle.hx_link.specs.Nets.{NetState}
+use Rattle.hx_link.specs.Told.{LinkState}
 use Rattle.hx_pool.specs.declared.entries.Note.{Note}
 use Rattle.hx_pool.specs.History.{what_of}
 use Rattle.hx_pool.specs.SeatView.{History}
-use Rattle.hx_connecting.specs.Links.{LinkGoes, NoLinkGoes}
-use Rattle.hx_connecting.specs.Sessions.{SessionNow}
+use Rattle.hx_record.specs.Truth.{IsTruePassed}
+use Rattle.hx_record.specs.declared.served.Kind.{Kind}
+use Rattle.hx_record.specs.declared.served.Kind.TheVariants as kind
+use Rattle.hx_record.specs.declared.served.Served.{Served}
+use Rattle.hx_connecting.specs.Sessions.{around_with}
+use Rattle.hx_connecting.specs.Exchanges.{IsClosed}
+use Rattle.hx_connecting.specs.Links.{LinkGoes}
+use Rattle.hx_connecting.specs.Sessions.{SessionNow, Exchanging}
 use Rattle.hx_connecting.specs.Touches.{Came, Had, Opened, Took, Went, Stays, Rests, Ends, EndsTakenBack, Touch}
+use Rattle.hx_session.specs.Doings.{Doing}
+use Rattle.hx_session.specs.Records.{WhereTold, told_of}
+use Rattle.hx_session.specs.Stopping.{StopTouches, stopping}
+use Rattle.hx_session.specs.Telling.{stopped}
+use Rattle.hx_session.specs.Touching.{Touches}
+use Rattle.hx_session.specs.declared.step.Step.{Step}
+use Rattle.hx_worker.specs.declared.answers.Stopped.{Stopped}
+use Rattle.hx_worker.specs.Headline.{doing_of, conn_after}
+use Rattle.hx_worker.specs.Steps.{Steps}
+use Rattle.hx_worker.specs.Stops.{StopsOne}
+use Rattle.hx_worker.specs.Workers.{WorkerNow}
 use Rattle.hx_course.specs.Graves.{Grave, conn_graves, client_graves}
+use Rattle.hx_course.specs.Lines.{TellsRising}
+use Rattle.hx_course.specs.Places.{BytesGrow}
+use Rattle.hx_course.specs.Truths.{WhereBoth, IsTrueOpen}
 
 -- no other thread makes entries at the seats
 abbrev pub AreAlone : List History → Type 0
@@ -41,20 +65,66 @@ pub record TouchGoes (s a : SessionNow) (seats seats' : List History) (added : L
   pub had : HadFor x.went x.came
   pub took : TookLast seats x.server x.id x.came goes.before
 
--- of the one that was touched, or of none
-abbrev pub CallGoes : SessionNow → SessionNow → List History → List History → List (List Note) → NetState → NetState
-    → Option Touch → Type 0
-CallGoes s a seats seats' added net net' None = NoLinkGoes s a net net'
-CallGoes s a seats seats' added net net' (Some x) = TouchGoes s a seats seats' added net net' x
+-- with a record the connection of its exchange is closed, but for a passed one that is true whether or not that
+-- connection's link told its end
+abbrev pub EndsExchange : Went → LinkState → Option What → Served → Kind → Type 0
+EndsExchange went client conn r (kind.Passed c) =
+    IsClosed went ⊎ ((v : What) × (conn ≡ Some v) × WhereBoth client v (IsTrueOpen r c))
+EndsExchange went client conn r (kind.Cut c why) = IsClosed went
+EndsExchange went client conn r (kind.Own status) = ⊤
 
--- the grave of its link, where the call closed it
-abbrev pub touched_graves : (s a : SessionNow) (seats seats' : List History) (added : List (List Note))
-    (net net' : NetState) (x : Option Touch) → CallGoes s a seats seats' added net net' x → List Grave
-touched_graves s a seats seats' added net net' None k = []
-touched_graves s a seats seats' added net net' (Some x) k = conn_graves x.server x.id k.goes.gone
+-- a passed record is of a request of its exchange's method
+abbrev pub IsOfMethod : SessionNow → LinkState → Option What → Served → Kind → Type 0
+IsOfMethod s client conn r (kind.Passed c) =
+    (b : BusyNow) → s.conn ≡ Some (Exchanging b)
+    → WhereTold (what_of_link client).told (λ x. WhereTold (told_of conn) (λ y.
+    (p : IsTruePassed r c x y) × (p.method ≡ b.exchange.method)))
+IsOfMethod s client conn r (kind.Cut c why) = ⊤
+IsOfMethod s client conn r (kind.Own status) = ⊤
 
--- the graves of a call: that of the connection, and behind it the client's where the session is over
-abbrev pub call_graves : (s a : SessionNow) (seats seats' : List History) (added : List (List Note))
-    (net net' : NetState) (x : Option Touch) → CallGoes s a seats seats' added net net' x → List Grave
-call_graves s a seats seats' added net net' x k =
-    touched_graves s a seats seats' added net net' x k ++ client_graves a.over a
+-- ---- a step
+
+-- the grave of the connection that a step closed
+abbrev pub step_touched : (d : Doing) (x : Option Touch) → Touches d x → List Grave
+step_touched d None t = []
+step_touched d (Some x) t = conn_graves x.server x.id t.goes.gone
+
+-- the graves of a step: that of the connection, and behind it the client's where the session is over
+abbrev pub step_graves : (w w' : WorkerNow) (net net' : NetState) (n : SessionNo) (r : Step)
+    → Steps w w' net net' n r → List Grave
+step_graves w w' net net' n r k =
+    step_touched (doing_of w w' net net' n r k) k.step.links.touches.touch k.step.links.touches.touched
+    ++ client_graves k.after.over k.after
+
+-- the touched connection, if it was taken, told what stood beside its last Park
+abbrev pub StepTook : (d : Doing) (x : Option Touch) → Touches d x → Type 0
+StepTook d None t = ⊤
+StepTook d (Some x) t = TookLast d.before.seats x.server x.id x.came t.goes.before
+
+-- what a course needs of a step beside what the worker says of it
+pub record StepGoesOn (w w' : WorkerNow) (net net' : NetState) (n : SessionNo) (r : Step) (k : Steps w w' net net' n r)
+    : Type 0 where
+  -- bytes come behind the bytes of the client's link
+  pub client : BytesGrow (what_of_link k.session.client) (what_of_link k.after.client)
+  pub took : StepTook (doing_of w w' net net' n r k) k.step.links.touches.touch k.step.links.touches.touched
+  pub method : IfSome r.served (λ v. IsOfMethod k.session k.after.client (conn_after w w' net net' n r k) v v.kind)
+  pub rises : TellsRising r.served r.left
+
+-- ---- a stop
+
+-- the grave of the connection that a stop closed
+abbrev pub stop_touched : (d : Doing) (x : Option Touch) → StopTouches d x → List Grave
+stop_touched d None t = []
+stop_touched d (Some x) t = conn_graves x.server x.id t.goes.gone
+
+-- the session's call, as it was stopped
+abbrev pub stopping_of : (w w' : WorkerNow) (net net' : NetState) (x : Stopped) → StopsOne w w' net net' x → Doing
+stopping_of w w' net net' x k =
+    stopping k.session (stopped k.session k.client x.served) (around_with w.seats w.turns net)
+    (around_with w'.seats w.turns k.mid) (k.stop.links w.turns).added x.served x.left
+
+-- the graves of a stop: that of the connection, if the session had one, and behind it the client's
+abbrev pub stop_graves : (w w' : WorkerNow) (net net' : NetState) (x : Stopped) → StopsOne w w' net net' x → List Grave
+stop_graves w w' net net' x k =
+    stop_touched (stopping_of w w' net net' x k) (k.stop.links w.turns).touch (k.stop.links w.turns).touched
+    ++ client_graves true (stopped k.session k.client x.served)

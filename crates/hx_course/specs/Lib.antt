@@ -8,3 +8,4 @@ pub mod Places
 pub mod Clients
 pub mod Truths
 pub mod Calls
+pub mod Courses

@@ -1,0 +1,20 @@
+-- What a worker's calls keep of all that was told in a course of them.
+use Rattle.std.specs.Prelude.{List}
+use Rattle.hx_link.specs.Nets.{NetState}
+use Rattle.hx_record.specs.declared.served.Told.{Told}
+use Rattle.hx_worker.specs.Workers.{WorkerNow}
+use Rattle.hx_course.specs.Calls.{AreAlone}
+use Rattle.hx_course.specs.Clients.{KeepsClients}
+use Rattle.hx_course.specs.Graves.{Grave, AreBuried}
+use Rattle.hx_course.specs.Truths.{KeepsTruth}
+
+-- the worker and its net, what was told so far, and whose links were buried so far
+pub record KeepsCourse (w : WorkerNow) (net : NetState) (records : List Told) (graves : List Grave) : Type 0 where
+  -- no other thread makes entries at its seats
+  pub alone : AreAlone w.seats
+  -- these are the links that the net buried
+  pub buried : AreBuried graves net
+  -- the records of each session are numbered and cover its client's bytes; those of one that is gone tile them
+  pub clients : KeepsClients w.thread w.last w.sessions records graves
+  -- each record is true of its links as they are now
+  pub truth : KeepsTruth w.sessions w.seats records graves
