@@ -5,3 +5,4 @@ pub mod ClientLemmas
 pub mod TruthLemmas
 pub mod GoingLemmas
 pub mod StepLemmas
+pub mod StopLemmas
