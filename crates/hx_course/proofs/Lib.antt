@@ -6,3 +6,5 @@ pub mod TruthLemmas
 pub mod GoingLemmas
 pub mod StepLemmas
 pub mod StopLemmas
+pub mod CareLemmas
+pub mod CallLemmas

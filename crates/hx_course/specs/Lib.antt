@@ -9,3 +9,4 @@ pub mod Clients
 pub mod Truths
 pub mod Calls
 pub mod Courses
+pub mod Sweeping
