@@ -8,3 +8,4 @@ pub mod StepLemmas
 pub mod StopLemmas
 pub mod CareLemmas
 pub mod CallLemmas
+pub mod EndLemmas

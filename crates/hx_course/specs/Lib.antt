@@ -10,3 +10,4 @@ pub mod Truths
 pub mod Calls
 pub mod Courses
 pub mod Sweeping
+pub mod Endings
