@@ -55,7 +55,7 @@ use Rattle.hx_course.proofs.TruthLemmas.{told_same, link_grows, passed_ended, cu
 
 -- ---- seats and entries by number
 
-from_zero : (i : ℕ) → 0 + i ≡ i
+pub from_zero : (i : ℕ) → 0 + i ≡ i
 from_zero i = omega arith
 
 at_zero : (i : ℕ) → i ≡ i + 0
@@ -91,10 +91,10 @@ adds_new P i (x ∷ old) (y ∷ new) (fs ∷ added) (suc k) h es a e f =
 
 -- ---- the marks of a touch
 
-marks_here : (t : ThreadNo) (n : SessionNo) (first : Bool) (y : Touch) (i : ℕ) → y.server.0 ≡ i → marks_at t n first (Some y) i ≡ touch_marks t n first y
+pub marks_here : (t : ThreadNo) (n : SessionNo) (first : Bool) (y : Touch) (i : ℕ) → y.server.0 ≡ i → marks_at t n first (Some y) i ≡ touch_marks t n first y
 marks_here t n first y i e = ap (λ (b : Bool). if b then touch_marks t n first y else []) (eq-eqb y.server.0 i e)
 
-marks_past : (t : ThreadNo) (n : SessionNo) (first : Bool) (y : Touch) (i : ℕ) → (y.server.0 ≡ i → ⊥) → marks_at t n first (Some y) i ≡ []
+pub marks_past : (t : ThreadNo) (n : SessionNo) (first : Bool) (y : Touch) (i : ℕ) → (y.server.0 ≡ i → ⊥) → marks_at t n first (Some y) i ≡ []
 marks_past t n first y i ne = ap (λ (b : Bool). if b then touch_marks t n first y else []) (ne_eqb y.server.0 i ne)
 
 spare_both : (i : ℕ) (xs ys : List Entry) → AllSpare i xs → AllSpare i ys → AllSpare i (xs ++ ys)
@@ -112,26 +112,26 @@ went_spares t n id i (Rests place uses) ne = (ne, tt)
 went_spares t n id i Ends ne = (ne, tt)
 went_spares t n id i (EndsTakenBack place uses) ne = (ne, (ne, (ne, tt)))
 
-touch_spares : (t : ThreadNo) (n : SessionNo) (first : Bool) (y : Touch) (i : ℕ) → (y.id.0 ≡ i → ⊥) → AllSpare i (touch_marks t n first y)
+pub touch_spares : (t : ThreadNo) (n : SessionNo) (first : Bool) (y : Touch) (i : ℕ) → (y.id.0 ≡ i → ⊥) → AllSpare i (touch_marks t n first y)
 touch_spares t n first y i ne = spare_both i (came_marks t n first y.id y.came) (went_marks t n y.id y.went) (came_spares t n first y.id i y.came ne) (went_spares t n y.id i y.went ne)
 
 -- ---- small facts
 
-conn_is : (a b : ConnId) → a.0 ≡ b.0 → a ≡ b
+pub conn_is : (a b : ConnId) → a.0 ≡ b.0 → a ≡ b
 conn_is a b e = ap (λ (k : ℕ). let r : ConnId = record { 0 = k } in r) e
 
-server_is : (a b : ServerNo) → a.0 ≡ b.0 → a ≡ b
+pub server_is : (a b : ServerNo) → a.0 ≡ b.0 → a ≡ b
 server_is a b e = ap (λ (k : ℕ). let r : ServerNo = record { 0 = k } in r) e
 
 goes_some : (v : What) (w : Option What) → GoesOn (Some v) w → (u : What) × (w ≡ Some u) × IsSameLink v u
 goes_some v None g = absurd g
 goes_some v (Some u) g = (u, refl, g)
 
-goes_from : (o w : Option What) (v : What) → o ≡ Some v → GoesOn o w → (u : What) × (w ≡ Some u) × IsSameLink v u
+pub goes_from : (o w : Option What) (v : What) → o ≡ Some v → GoesOn o w → (u : What) × (w ≡ Some u) × IsSameLink v u
 goes_from o w v e g = goes_some v w (subst (λ (p : Option What). GoesOn p w) e g)
 
 -- a session that had a connection touched that one
-had_before : (s : SessionNow) (h : History) (y : Touch) (came : Came) (w : Option What) (c : Holding) → s.conn ≡ Some c → TellsBefore s h y came w
+pub had_before : (s : SessionNow) (h : History) (y : Touch) (came : Came) (w : Option What) (c : Holding) → s.conn ≡ Some c → TellsBefore s h y came w
     → (conn_server c ≡ y.server) × (conn_id c ≡ y.id) × (w ≡ Some (what_of_link (conn_link c)))
 had_before s h y Had w c e t =
     let same : t.0 ≡ c = some_is t.0 c (sym t.1.0 ∙ e) in

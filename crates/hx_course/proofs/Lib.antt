@@ -1,5 +1,6 @@
 pub mod Numbers
 pub mod TableLemmas
+pub mod ConnLines
 pub mod LineLemmas
 pub mod ClientLemmas
 pub mod TruthLemmas
@@ -9,3 +10,4 @@ pub mod StopLemmas
 pub mod CareLemmas
 pub mod CallLemmas
 pub mod EndLemmas
+pub mod ConnLemmas

@@ -2,6 +2,8 @@
 use Rattle.std.proofs.Common.{◌≡◌, ◌≢◌, ◌⊎◌, ⊎_elim, inl, inr, ℕ, ◌+◌, ◌<◌, Bool, true, false, cond, List, [], ◌∷◌, ◌++◌, length, refl, sym, ap, ◌∙◌, subst, arith, append_assoc, Option, Some, None}
 use Rattle.std.specs.Prelude.{Contains, ⊤}
 use Rattle.std.proofs.lemmas.List.Elements.{Contains-append_cases, Contains-push_cases}
+use mathlib.Core.Logic.{dite}
+use native.Mathlib.Decide.{ℕ_discrete}
 use Rattle.hx_base.specs.declared.numbers.ConnId.{ConnId}
 use Rattle.hx_base.specs.declared.numbers.PlaceNo.{PlaceNo}
 use Rattle.hx_base.specs.declared.numbers.SessionNo.{SessionNo}
@@ -10,13 +12,13 @@ use Rattle.hx_base.specs.declared.what.What.{What}
 use Rattle.hx_pool.specs.declared.entries.Entry.{Entry}
 use Rattle.hx_pool.specs.declared.entries.Entry.TheVariants.{Open, Park, Take, Free, Close, Look, Up, Down, Count, Gate, SetGate, Round}
 use Rattle.hx_pool.specs.declared.entries.Note.{Note}
-use Rattle.hx_pool.specs.Table.{Table, Unopened, HeldBy, IdleAt, Closed, Needs, after_entry, after, empty_table}
+use Rattle.hx_pool.specs.Table.{Conn, put, Table, Unopened, HeldBy, IdleAt, Closed, Needs, after_entry, after, empty_table}
 use Rattle.hx_pool.specs.History.{is_mark, entries_of, marks_of, table_from, table_after, what_of, EachStep, MeetsNeeds, IsLegal}
 use Rattle.hx_pool.specs.SeatView.{About, History, Makes, AllBelow}
 use Rattle.hx_pool.proofs.Counting.{all_own, below-second}
 use Rattle.hx_pool.proofs.Histories.{table_from-append, EachStep-first, EachStep-second, marks_of-append}
 use Rattle.hx_pool.proofs.Holding.{gained}
-use Rattle.hx_pool.proofs.Tables.{put_same, put_other, Sound, sound_at, sound_along}
+use Rattle.hx_pool.proofs.Tables.{put_same, put_other, Sound, sound_at, sound_after, sound_along, closed_along}
 
 -- ---- lists
 
@@ -184,3 +186,68 @@ park_rests T es t n id place uses w marks has =
       ap (λ (R : Table). R.whats id.0) e ∙ (stays.what ∙ put_same S.whats id.0 w id.0 refl),
       ap (λ (R : Table). R.uses id.0) e ∙ (stays.uses ∙ put_same S.uses id.0 uses id.0 refl),
     )
+
+-- ---- what a mark leaves
+
+-- a mark of the entries is made by one of them
+pub mark_note : (es : List Note) (m : Entry) → Contains (marks_of es) m → (before : List Note) × (x : Note) × (behind : List Note) × (es ≡ before ++ x ∷ behind) × (x.entry ≡ m)
+mark_note [] m c = absurd (none_in m c)
+mark_note (y ∷ ys) m c =
+    let P : Bool → Type 0 = λ b. Contains (cond b (y.entry ∷ marks_of ys) (marks_of ys)) m → (before : List Note) × (x : Note) × (behind : List Note) × (y ∷ ys ≡ before ++ x ∷ behind) × (x.entry ≡ m) in
+    let later : Contains (marks_of ys) m → (before : List Note) × (x : Note) × (behind : List Note) × (y ∷ ys ≡ before ++ x ∷ behind) × (x.entry ≡ m) =
+    λ q. let r = mark_note ys m q in (y ∷ r.0, r.1, r.2, ap (λ l. y ∷ l) r.3, r.4) in
+    let go : (b : Bool) → P b = λ b. elim b as P [
+      | true ↦ λ q. ⊎_elim (λ (h : Contains (y.entry ∷ []) m). ([], y, ys, refl, one_in y.entry m h)) (λ (h : Contains (marks_of ys) m). later h) (Contains-append_cases (y.entry ∷ []) (marks_of ys) m q)
+      | false ↦ λ q. later q
+    ] in
+    go (is_mark y.entry) c
+
+after_close : (S : Table) (x : Note) (t : ThreadNo) (n : SessionNo) (id : ConnId) → x.entry ≡ Close t n id → (after S x).conns id.0 ≡ Closed
+after_close S x t n id e = ap (λ (m : Entry). (after_entry S x.what m).conns id.0) e ∙ put_same S.conns id.0 Closed id.0 refl
+
+-- a connection that was closed among them is closed
+pub closed_by : (T : Table) (es : List Note) (t : ThreadNo) (n : SessionNo) (id : ConnId) → Sound T → EachStep MeetsNeeds T es → Contains (marks_of es) (Close t n id) → (table_from T es).conns id.0 ≡ Closed
+closed_by T es t n id sound legal c =
+    let r = mark_note es (Close t n id) c in
+    let S = table_from T r.0 in
+    let steps : EachStep MeetsNeeds T (r.0 ++ r.1 ∷ r.2) = subst (EachStep MeetsNeeds T) r.3 legal in
+    let rest = EachStep-second MeetsNeeds T r.0 (r.1 ∷ r.2) steps in
+    let sound_s = sound_along T r.0 sound (EachStep-first MeetsNeeds T r.0 (r.1 ∷ r.2) steps) in
+    ap (λ (l : List Note). (table_from T l).conns id.0) r.3
+    ∙ (ap (λ (R : Table). R.conns id.0) (table_from-append T r.0 (r.1 ∷ r.2))
+    ∙ closed_along (after S r.1) r.2 id.0 (sound_after S r.1 sound_s rest.0) rest.1 (after_close S r.1 t n id r.4))
+
+-- where the one mark is an Open or a Take, its session holds the connection
+pub held_one : (T : Table) (es : List Note) (m : Entry) (t : ThreadNo) (n : SessionNo) (id : ConnId) → marks_of es ≡ m ∷ [] → ((S : Table) (w : Option What) → (after_entry S w m).conns id.0 ≡ HeldBy t n)
+    → (table_from T es).conns id.0 ≡ HeldBy t n
+held_one T es m t n id e holds =
+    let r = first_mark es m [] e in
+    let S = table_from T r.0 in
+    let stays = spared id.0 (after S r.1) r.2 (subst (AllSpare id.0) (sym r.6) tt) in
+    ap (λ (l : List Note). (table_from T l).conns id.0) r.3
+    ∙ (ap (λ (R : Table). R.conns id.0) (table_from-append T r.0 (r.1 ∷ r.2))
+    ∙ (stays.conn ∙ (ap (λ (x : Entry). (after_entry S r.1.what x).conns id.0) r.5 ∙ holds S r.1.what)))
+
+unopened_put : (f : ℕ → Conn) (k i : ℕ) (c : Conn) → (c ≡ Unopened → ⊥) → put f k c i ≡ Unopened → f i ≡ Unopened
+unopened_put f k i c other e = dite (ℕ_discrete i k)
+    (λ (is : i ≡ k). absurd (other (sym (put_same f k c i is) ∙ e)))
+    (λ ne. sym (put_other f k c i ne) ∙ e)
+
+unopened_entry : (T : Table) (w : Option What) (e : Entry) (i : ℕ) → (after_entry T w e).conns i ≡ Unopened → T.conns i ≡ Unopened
+unopened_entry T w (Open t n id) i e = unopened_put T.conns id.0 i (HeldBy t n) (λ k. cc) e
+unopened_entry T w (Park t n id place uses) i e = unopened_put T.conns id.0 i (IdleAt place) (λ k. cc) e
+unopened_entry T w (Take t n first place id uses) i e = unopened_put T.conns id.0 i (HeldBy t n) (λ k. cc) e
+unopened_entry T w (Close t n id) i e = unopened_put T.conns id.0 i Closed (λ k. cc) e
+unopened_entry T w (Free t place) i e = e
+unopened_entry T w (Look t place found) i e = e
+unopened_entry T w (Up t old) i e = e
+unopened_entry T w (Down t old) i e = e
+unopened_entry T w (Count t c) i e = e
+unopened_entry T w (Gate t draining) i e = e
+unopened_entry T w (SetGate t draining) i e = e
+unopened_entry T w (Round t k old) i e = e
+
+-- a connection that isn't opened wasn't before
+pub unopened_before : (T : Table) (es : List Note) (i : ℕ) → (table_from T es).conns i ≡ Unopened → T.conns i ≡ Unopened
+unopened_before T [] i e = e
+unopened_before T (x ∷ xs) i e = unopened_entry T x.what x.entry i (unopened_before (after T x) xs i e)

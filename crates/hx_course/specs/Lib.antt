@@ -11,3 +11,4 @@ pub mod Calls
 pub mod Courses
 pub mod Sweeping
 pub mod Endings
+pub mod Conns
