@@ -101,9 +101,48 @@ own_with (Some r) c b e over = by_kind r.kind refl
     by_kind (kind.Cut c why) q = absurd (no_exchange (λ o. subst (λ (z : Kind). IsOwn z) q o))
     by_kind (kind.Own status) q = subst (λ (z : Kind). IsOwn z) (sym q) tt
 
+-- ---- seats after a call
+
+at_zero : (i : ℕ) → i ≡ i + 0
+at_zero i = omega arith
+
+at_next : (i k : ℕ) → (i + 1) + k ≡ i + suc k
+at_next i k = omega arith
+
+-- a seat after a call, that before it, and the entries in between
+pub adds_back : (P : ℕ → List Note → Type 0) (i : ℕ) (old new : List History) (added : List (List Note)) (k : ℕ) (h : History) → AddsEach P i old new added → slice_get new k ≡ Some h
+    → (g : History) × (es : List Note) × (slice_get old k ≡ Some g) × Makes g h es × P (i + k) es
+adds_back P i [] [] [] k h a e = cc
+adds_back P i [] [] (x ∷ added) k h a e = absurd a
+adds_back P i [] (y ∷ new) added k h a e = absurd a
+adds_back P i (x ∷ old) [] added k h a e = absurd a
+adds_back P i (x ∷ old) (y ∷ new) [] k h a e = absurd a
+adds_back P i (x ∷ old) (y ∷ new) (es ∷ added) zero h a e = let is : y ≡ h = cc in (x, es, refl, subst (λ (z : History). Makes x z es) is a.0, subst (λ n. P n es) (at_zero i) a.1)
+adds_back P i (x ∷ old) (y ∷ new) (es ∷ added) (suc k) h a e =
+    let r = adds_back P (i + 1) old new added k h a.2 e in (r.0, r.1, r.2, r.3, subst (λ n. P n r.1) (at_next i k) r.4)
+
+if_some : {A : Type 0} (o : Option A) (P : A → Type 0) → ((x : A) → o ≡ Some x → P x) → IfSome o P
+if_some None P f = tt
+if_some (Some x) P f = f x refl
+
+not_idle : (T : Table) (i : ℕ) (place : PlaceNo) (t : ThreadNo) (n : SessionNo) → T.conns i ≡ IdleAt place → T.conns i ≡ HeldBy t n → ⊥
+not_idle T i place t n a b = let e = sym a ∙ b in cc
+
+not_fresh : (T : Table) (i : ℕ) (t : ThreadNo) (n : SessionNo) → T.conns i ≡ Unopened → T.conns i ≡ HeldBy t n → ⊥
+not_fresh T i t n a b = let e = sym a ∙ b in cc
+
+not_closed : (T : Table) (i : ℕ) (t : ThreadNo) (n : SessionNo) → T.conns i ≡ Closed → T.conns i ≡ HeldBy t n → ⊥
+not_closed T i t n a b = let e = sym a ∙ b in cc
+
+not_both : (T : Table) (i : ℕ) (place : PlaceNo) → T.conns i ≡ IdleAt place → T.conns i ≡ Closed → ⊥
+not_both T i place a b = let e = sym a ∙ b in cc
+
+held_same : (t : ThreadNo) (n m : SessionNo) → HeldBy t n ≡ HeldBy t m → n ≡ m
+held_same t n m e = cc
+
 module _ (ss : List SessionNow) (last : ℕ) (s a : SessionNow) (seats seats' : List History) (added : List (List Note)) (first : Bool) (net net' : NetState) (x : Option Touch)
     (graves graves' : List Grave) (records : List Told) (served : Option Served) (left : Option Left)
-    (rise : NumbersRise 0 ss last) (there : session_of ss s.number.0 ≡ Some s) (number : a.number ≡ s.number) (empty : a.over ≡ true → a.conn ≡ None)
+    (rise : NumbersRise 0 ss last) (there : session_of ss s.number.0 ≡ Some s) (worker : a.worker ≡ s.worker) (number : a.number ≡ s.number) (empty : a.over ≡ true → a.conn ≡ None)
     (adds : Adds s.worker s.number first x seats seats' added) (alone : AreAlone seats) (its : IfSome served (λ r. ItsKind s r.kind))
     (own : x ≡ None → IfSome served (λ r. IsOwn r.kind)) (none : x ≡ None → NoLinkGoes s a net net') (some : (y : Touch) → x ≡ Some y → TouchGoes s a seats seats' added net net' y)
     (exch : (y : Touch) (e : x ≡ Some y) → ExchangeGoes s a y y.went (some y e).goes.before served)
@@ -256,3 +295,126 @@ module _ (ss : List SessionNow) (last : ℕ) (s a : SessionNow) (seats seats' : 
         rises_the : (z : Kind) → IsThe z c → ExchangeRises z → RisesThere c
         rises_the z (inl w) h = subst (λ (q : Kind). ExchangeRises q) w h
         rises_the z (inr (why, w)) h = subst (λ (q : Kind). ExchangeRises q) w h
+
+    -- how a passed exchange ends on a connection that isn't closed
+    passed_ends : (r : Served) → served ≡ Some r → (c : Carried) → r.kind ≡ kind.Passed c → (IsClosed y.went → ⊥) → (b : BusyNow) → s.conn ≡ Some (Exchanging b) → (w : What) → k.goes.after ≡ Some w
+        → (l : LinkTold) → w.told ≡ Some l → EndsWith b c l.sent l.taken
+    passed_ends r q c the open_ b is w after l told =
+        let all : PassedEnds s y k.goes.after r.kind = subst (λ (z : Option Served). IfSome z (λ v. PassedEnds s y k.goes.after v.kind)) q (passed y e) in
+        by_end k.goes.after after (subst (λ (z : Kind). PassedEnds s y k.goes.after z) the all)
+      where
+        by_end : (o : Option What) → o ≡ Some w → PassedEnds s y o (kind.Passed c) → EndsWith b c l.sent l.taken
+        by_end o f (inl closed) = absurd (open_ closed)
+        by_end o f (inr (d, had, ends)) =
+            let at_w : IfSome w.told (λ m. EndsWith d c m.sent m.taken) = subst (λ (z : Option What). IsSomeAnd z (λ u. IfSome u.told (λ m. EndsWith d c m.sent m.taken))) f ends in
+            let at_l : EndsWith d c l.sent l.taken = subst (λ (z : Option LinkTold). IfSome z (λ m. EndsWith d c m.sent m.taken)) told at_w in
+            let both : Some (Exchanging d) ≡ Some (Exchanging b) = sym had ∙ is in
+            let same : d ≡ b = cc in
+            subst (λ (z : BusyNow). EndsWith z c l.sent l.taken) same at_l
+
+    -- and the record is of the session's exchange
+    of_exchange : (r : Served) → served ≡ Some r → (c : Carried) → r.kind ≡ kind.Passed c → (b : BusyNow) → s.conn ≡ Some (Exchanging b) → IsOfExchange b c
+    of_exchange r q c the b is =
+        let i : ItsExchange s c = subst (λ (z : Kind). ItsKind s z) the (subst (λ (z : Option Served). IfSome z (λ v. ItsKind s v.kind)) q its) in
+        let both : Some (Exchanging i.0) ≡ Some (Exchanging b) = sym i.1 ∙ is in
+        let same : i.0 ≡ b = cc in
+        subst (λ (z : BusyNow). IsOfExchange z c) same i.2
+
+    -- ---- it stays with the session
+
+    had_stays : (c d : Holding) → s.conn ≡ Some c → a.conn ≡ Some d → HadGoes c d served → conn_server d ≡ y.server → conn_id d ≡ y.id → k.goes.after ≡ Some (what_of_link (conn_link d)) → HeldTells d
+        → (IsClosed y.went → ⊥) → CoversHeld records' d
+    had_stays (Exchanging b) (Exchanging d) is now h to num after tells open_ =
+        let had = had_is (Exchanging b) is in
+        let old = had_covers (Exchanging b) is (told_before (what_of_link b.link) (what_of_link d.link) had.2 after tells) in
+        let owns = own_with served (Exchanging d) d refl (λ r q f. subst (λ (o : Option Holding). HasNoExchange o) now (goes.over r q f)) in
+        conn_as b.server d.server b.id d.id records' b.exchange.sent_from d.exchange.sent_from b.exchange.taken_from d.exchange.taken_from b.uses d.uses
+        (had.0 ∙ sym to) (had.1 ∙ sym num) (sym h.begins.sent_from) (sym h.begins.taken_from) (sym h.begins.uses_are)
+        (own_on b.server b.id owns b.exchange.sent_from b.exchange.taken_from b.uses old)
+    had_stays (Exchanging b) (Resting r) is now h to num after tells open_ =
+        let had = had_is (Exchanging b) is in
+        let old = had_covers (Exchanging b) is (told_before (what_of_link b.link) (what_of_link r.link) had.2 after tells) in
+        let v = h.1.0 in
+        let c = h.1.1 in
+        let l = is_some (what_of_link r.link).told tells in
+        let ends = passed_ends v h.1.2 c h.1.3 open_ b is (what_of_link r.link) after l.0 l.1 in
+        let parts = told_parts r.link.sent r.link.taken r.link.told_end l.0 l.1 in
+        let counted = goes.counted r now in
+        let sent : length l.0.sent ≡ r.link.sent_count = subst (λ (o : Option (List ℕ)). IfSome o (λ z. length z ≡ r.link.sent_count)) parts.0 counted.sent in
+        let took : length l.0.taken ≡ r.link.taken_count = subst (λ (o : Option (List ℕ)). IfSome o (λ z. length z ≡ r.link.taken_count)) parts.1 counted.taken in
+        conn_as b.server r.server b.id r.id records' c.sent.to r.link.sent_count c.took.to r.link.taken_count (b.uses + 1) r.uses
+        (had.0 ∙ sym to) (had.1 ∙ sym num) (ends.all_sent ∙ sent) (ends.all_taken ∙ took) (sym h.0)
+        (record_on b is v h.1.2 c (inl h.1.3) (of_exchange v h.1.2 c h.1.3 b is) old)
+    had_stays (Resting q) (Exchanging d) is now h to num after tells open_ =
+        let had = had_is (Resting q) is in
+        let old = had_covers (Resting q) is (told_before (what_of_link q.link) (what_of_link d.link) had.2 after tells) in
+        let owns = own_without s served its (λ b f. let no_ = sym is ∙ f in cc) in
+        conn_as q.server d.server q.id d.id records' q.link.sent_count d.exchange.sent_from q.link.taken_count d.exchange.taken_from q.uses d.uses
+        (had.0 ∙ sym to) (had.1 ∙ sym num) (sym h.sent_from) (sym h.taken_from) (sym h.uses_are)
+        (own_on q.server q.id owns q.link.sent_count q.link.taken_count q.uses old)
+    had_stays (Resting q) (Resting r) is now h to num after tells open_ =
+        let had = had_is (Resting q) is in
+        let old = had_covers (Resting q) is (told_before (what_of_link q.link) (what_of_link r.link) had.2 after tells) in
+        let owns = own_without s served its (λ b f. let no_ = sym is ∙ f in cc) in
+        let still = goes.still q r is now in
+        conn_as q.server r.server q.id r.id records' q.link.sent_count r.link.sent_count q.link.taken_count r.link.taken_count q.uses r.uses
+        (had.0 ∙ sym to) (had.1 ∙ sym num) (sym still.0) (sym still.1) (sym h)
+        (own_on q.server q.id owns q.link.sent_count q.link.taken_count q.uses old)
+
+    -- the session had none before
+    had_none : (came : Came) → y.came ≡ came → (came ≡ Had → ⊥) → s.conn ≡ None
+    had_none came c other = by_came y.came refl k.goes.was
+      where
+        by_came : (z : Came) → y.came ≡ z → TellsBefore s k.history y z k.goes.before → s.conn ≡ None
+        by_came Had f w = absurd (other (sym c ∙ f))
+        by_came Opened f w = w.0
+        by_came (Took place uses) f w = w.0
+
+    no_exchange : s.conn ≡ None → IfSome served (λ r. IsOwn r.kind)
+    no_exchange is = own_without s served its (λ b f. let no_ = sym is ∙ f in cc)
+
+    opened_stays : (d : Holding) → y.came ≡ Opened → OpenedGoes d → conn_server d ≡ y.server → conn_id d ≡ y.id → CoversHeld records' d
+    opened_stays (Resting r) c h to num = absurd h
+    opened_stays (Exchanging d) c h to num =
+        let owns = no_exchange (had_none Opened c (λ f. cc)) in
+        conn_as y.server d.server y.id d.id records' 0 d.exchange.sent_from 0 d.exchange.taken_from 0 d.uses
+        (sym to) (sym num) (sym h.sent_from) (sym h.taken_from) (sym h.uses_are) (own_on y.server y.id owns 0 0 0 (opened_covers c))
+
+    took_stays : (d : Holding) (place : PlaceNo) (uses : ℕ) → y.came ≡ Took place uses → TookGoes k.goes.before uses d → conn_server d ≡ y.server → conn_id d ≡ y.id
+        → k.goes.after ≡ Some (what_of_link (conn_link d)) → HeldTells d → CoversHeld records' d
+    took_stays (Resting r) place uses c h to num after tells = absurd h
+    took_stays (Exchanging d) place uses c h to num after tells = by_before k.goes.before refl h.1
+      where
+        by_before : (o : Option What) → k.goes.before ≡ o → IsSomeAnd o (λ w. IfSome w.told (λ l. BeginsAt d uses (length l.sent) (length l.taken))) → CoversHeld records' (Exchanging d)
+        by_before None b i = absurd i
+        by_before (Some v) b i =
+            let l = is_some v.told (told_before v (what_of_link d.link) b after tells) in
+            let begins : BeginsAt d uses (length l.0.sent) (length l.0.taken) = subst (λ (o : Option LinkTold). IfSome o (λ m. BeginsAt d uses (length m.sent) (length m.taken))) l.1 i in
+            let owns = no_exchange (had_none (Took place uses) c (λ f. cc)) in
+            conn_as y.server d.server y.id d.id records' (length l.0.sent) d.exchange.sent_from (length l.0.taken) d.exchange.taken_from uses d.uses
+            (sym to) (sym num) (sym begins.sent_from) (sym begins.taken_from) (sym begins.uses_are)
+            (own_on y.server y.id owns (length l.0.sent) (length l.0.taken) uses (took_covers place uses c v b l.0 l.1))
+
+    came_stays : (came : Came) → y.came ≡ came → (d : Holding) → a.conn ≡ Some d → CameGoes came s.conn k.goes.before d served → conn_server d ≡ y.server → conn_id d ≡ y.id
+        → k.goes.after ≡ Some (what_of_link (conn_link d)) → HeldTells d → (IsClosed y.went → ⊥) → CoversHeld records' d
+    came_stays Had c d now h to num after tells open_ = by_conn s.conn refl h
+      where
+        by_conn : (o : Option Holding) → s.conn ≡ o → CameGoes Had o k.goes.before d served → CoversHeld records' d
+        by_conn None f g = absurd g
+        by_conn (Some q) f g = had_stays q d f now g to num after tells open_
+    came_stays Opened c d now h to num after tells open_ = opened_stays d c h to num
+    came_stays (Took place uses) c d now h to num after tells open_ = took_stays d place uses c h to num after tells
+
+    -- what the session has after the call
+    touched_held : (d : Holding) → a.conn ≡ Some d → HeldTells d → CoversHeld records' d
+    touched_held d now tells = by_went y.went refl k.goes.is (exch y e)
+      where
+        by_went : (w : Went) → y.went ≡ w → TellsAfter a k.es y w k.goes.gone k.goes.after → ExchangeGoes s a y w k.goes.before served → CoversHeld records' d
+        by_went Stays f g h =
+            let one_ : g.1.0 ≡ d = some_is g.1.0 d (sym g.1.1.0 ∙ now) in
+            let two : h.0 ≡ d = some_is h.0 d (sym h.1 ∙ now) in
+            came_stays y.came refl d now (subst (λ (z : Holding). CameGoes y.came s.conn k.goes.before z served) two h.2) (ap conn_server (sym one_) ∙ g.1.1.1) (ap conn_id (sym one_) ∙ g.1.1.2)
+            (g.1.2 ∙ ap (λ (z : Holding). Some (what_of_link (conn_link z))) one_) tells (λ z. subst (λ (q : Went). IsClosed q) f z)
+        by_went (Rests place uses) f g h = let no_ = sym now ∙ g.1 in cc
+        by_went Ends f g h = let no_ = sym now ∙ g.0 in cc
+        by_went (EndsTakenBack place uses) f g h = let no_ = sym now ∙ g.0 in cc
