@@ -418,3 +418,140 @@ module _ (ss : List SessionNow) (last : ℕ) (s a : SessionNow) (seats seats' : 
         by_went (Rests place uses) f g h = let no_ = sym now ∙ g.1 in cc
         by_went Ends f g h = let no_ = sym now ∙ g.0 in cc
         by_went (EndsTakenBack place uses) f g h = let no_ = sym now ∙ g.0 in cc
+
+    -- ---- it is closed
+
+    -- with the exchange that was under way, whatever record is given
+    exchange_closed : (b : BusyNow) → s.conn ≡ Some (Exchanging b) → CoversConn b.server b.id records b.exchange.sent_from b.exchange.taken_from b.uses → CoversSome b.server b.id records'
+    exchange_closed b is old = by_served served refl its
+      where
+        none_of : IfSome served (λ r. IsOwn r.kind) → CoversSome b.server b.id records'
+        none_of owns = record { sent = b.exchange.sent_from; took = b.exchange.taken_from; count = b.uses; covers = own_on b.server b.id owns b.exchange.sent_from b.exchange.taken_from b.uses old }
+
+        one_of : (r : Served) → served ≡ Some r → (c : Carried) → IsThe r.kind c → ItsExchange s c → CoversSome b.server b.id records'
+        one_of r q c the i =
+            let both : Some (Exchanging i.0) ≡ Some (Exchanging b) = sym i.1 ∙ is in
+            let same_ : i.0 ≡ b = cc in
+            record { sent = c.sent.to; took = c.took.to; count = b.uses + 1; covers = record_on b is r q c the (subst (λ (z : BusyNow). IsOfExchange z c) same_ i.2) old }
+
+        by_kind : (r : Served) → served ≡ Some r → (z : Kind) → r.kind ≡ z → ItsKind s z → CoversSome b.server b.id records'
+        by_kind r q (kind.Passed c) f i = one_of r q c (inl f) i
+        by_kind r q (kind.Cut c why) f i = one_of r q c (inr (why, f)) i
+        by_kind r q (kind.Own status) f i =
+            none_of (subst (λ (o : Option Served). IfSome o (λ v. IsOwn v.kind)) (sym q) (subst (λ (u : Kind). IsOwn u) (sym f) tt))
+
+        by_served : (o : Option Served) → served ≡ o → IfSome o (λ r. ItsKind s r.kind) → CoversSome b.server b.id records'
+        by_served None q i = none_of (subst (λ (o : Option Served). IfSome o (λ v. IsOwn v.kind)) (sym q) tt)
+        by_served (Some r) q i = by_kind r q r.kind refl i
+
+    some_as : (server server' : ServerNo) (id id' : ConnId) → server ≡ server' → id ≡ id' → CoversSome server id records' → CoversSome server' id' records'
+    some_as server server' id id' f i c = subst (λ (n : ServerNo). CoversSome n id' records') f (subst (λ (j : ConnId). CoversSome server j records') i c)
+
+    had_closed : (c : Holding) → s.conn ≡ Some c → HeldTells c → CoversSome y.server y.id records'
+    had_closed (Exchanging b) is tells =
+        let had = had_is (Exchanging b) is in
+        some_as b.server y.server b.id y.id had.0 had.1 (exchange_closed b is (had_covers (Exchanging b) is tells))
+    had_closed (Resting q) is tells =
+        let had = had_is (Resting q) is in
+        let owns = own_without s served its (λ b f. let no_ = sym is ∙ f in cc) in
+        some_as q.server y.server q.id y.id had.0 had.1
+        (record { sent = q.link.sent_count; took = q.link.taken_count; count = q.uses; covers = own_on q.server q.id owns q.link.sent_count q.link.taken_count q.uses (had_covers (Resting q) is tells) })
+
+    came_closed : (came : Came) → y.came ≡ came → TellsBefore s k.history y came k.goes.before → (w : What) → k.goes.after ≡ Some w → IsSome w.told → CoversSome y.server y.id records'
+    came_closed Had c b w after tells = had_closed b.0 b.1.0 (told_before (what_of_link (conn_link b.0)) w b.2 after tells)
+    came_closed Opened c b w after tells = record { sent = 0; took = 0; count = 0; covers = own_on y.server y.id (no_exchange b.0) 0 0 0 (opened_covers c) }
+    came_closed (Took place uses) c b w after tells =
+        let v = b.1.2 in
+        let before_is : k.goes.before ≡ Some v = b.1.5 in
+        let l = is_some v.told (told_before v w before_is after tells) in
+        record { sent = length l.0.sent; took = length l.0.taken; count = uses; covers = own_on y.server y.id (no_exchange b.0) (length l.0.sent) (length l.0.taken) uses (took_covers place uses c v before_is l.0 l.1) }
+
+    -- the marks of a closing
+    close_in : (w : Went) → y.went ≡ w → IsClosed w → Contains (marks_of k.es) (Close t n y.id)
+    close_in Stays f c = absurd c
+    close_in (Rests place uses) f c = absurd c
+    close_in Ends f c =
+        let m = Close t n y.id in
+        subst (λ (es : List Entry). Contains es m) (sym (marks_by y.came Ends refl f)) (Contains-append_right (came_marks t n first y.id y.came) (m ∷ []) m (Contains-push [] m))
+    close_in (EndsTakenBack place uses) f c =
+        let m = Close t n y.id in
+        let lead : List Entry = Park t n y.id place uses ∷ Take t n false place y.id uses ∷ [] in
+        subst (λ (es : List Entry). Contains es m) (sym (marks_by y.came (EndsTakenBack place uses) refl f))
+        (Contains-append_right (came_marks t n first y.id y.came) (lead ++ m ∷ []) m (Contains-push lead m))
+
+    closed_now : IsClosed y.went → (table_after k.history.seen).conns y.id.0 ≡ Closed
+    closed_now c = ap (λ (S : Table). S.conns y.id.0) table ∙ closed_by T k.es t n y.id sound legal (close_in y.went refl c)
+
+    -- a link that it left was buried
+    closed_link : (l : LinkState) → k.goes.gone ≡ Some l → IsClosed y.went × (k.goes.after ≡ Some (what_of_link l))
+    closed_link l gone = by_went y.went refl k.goes.is
+      where
+        buried_is : (o : Option LinkState) → o ≡ Some l → IsBuried y o k.goes.after → k.goes.after ≡ Some (what_of_link l)
+        buried_is None f b = cc
+        buried_is (Some j) f b = b.1 ∙ ap (λ (z : LinkState). Some (what_of_link z)) (some_is j l f)
+
+        by_went : (w : Went) → y.went ≡ w → TellsAfter a k.es y w k.goes.gone k.goes.after → IsClosed w × (k.goes.after ≡ Some (what_of_link l))
+        by_went Stays f g_ = let no_ = sym gone ∙ g_.0 in cc
+        by_went (Rests place uses) f g_ = let no_ = sym gone ∙ g_.0 in cc
+        by_went Ends f g_ = (tt, buried_is k.goes.gone gone g_.1)
+        by_went (EndsTakenBack place uses) f g_ = (tt, buried_is k.goes.gone gone g_.1)
+
+    closed_over : IsClosed y.went → IsOver seats' y.server y.id
+    closed_over c = record { seat = k.history; at = k.seat; closed = closed_now c }
+
+    closed_covers : (l : LinkState) → k.goes.gone ≡ Some l → IsSome (what_of_link l).told → CoversSome y.server y.id records'
+    closed_covers l gone tells = came_closed y.came refl k.goes.was (what_of_link l) (closed_link l gone).1 tells
+
+    -- ---- it rests
+
+    -- behind a call that leaves it with its session or closed it doesn't rest
+    came_held : (came : Came) → y.came ≡ came → y.went ≡ Stays → TellsBefore s k.history y came k.goes.before → T.conns y.id.0 ≡ T.conns y.id.0 → (table_after k.history.seen).conns y.id.0 ≡ HeldBy g.about.thread s.number ⊎ (table_after k.history.seen).conns y.id.0 ≡ HeldBy t n
+    came_held Had c w b same_ =
+        let stays = spared y.id.0 T k.es (subst (AllSpare y.id.0) (sym (marks_by Had Stays c w)) tt) in
+        let held : T.conns y.id.0 ≡ HeldBy g.about.thread s.number =
+        ap (λ (i : ConnId). T.conns i.0) (sym b.1.2) ∙ held_at s b.0 there b.1.0 g (ap (λ (m : ServerNo). slice_get seats m.0) b.1.1 ∙ before.1) in
+        inl (ap (λ (S : Table). S.conns y.id.0) table ∙ (stays.conn ∙ held))
+    came_held Opened c w b same_ =
+        inr (ap (λ (S : Table). S.conns y.id.0) table ∙ held_one T k.es (Open t n y.id) t n y.id (marks_by Opened Stays c w) (λ S u. put_same S.conns y.id.0 (HeldBy t n) y.id.0 refl))
+    came_held (Took place uses) c w b same_ =
+        inr (ap (λ (S : Table). S.conns y.id.0) table ∙ held_one T k.es (Take t n first place y.id uses) t n y.id (marks_by (Took place uses) Stays c w) (λ S u. put_same S.conns y.id.0 (HeldBy t n) y.id.0 refl))
+
+    -- the passed exchange of a connection that comes to rest
+    rests_covers : (place : PlaceNo) (uses : ℕ) → y.went ≡ Rests place uses → TellsAfter a k.es y (Rests place uses) k.goes.gone k.goes.after → ExchangeGoes s a y (Rests place uses) k.goes.before served
+        → (v : What) → what_of k.history.seen y.id.0 ≡ Some v → (l : LinkTold) → v.told ≡ Some l → CoversConn y.server y.id records' (length l.sent) (length l.taken) ((table_after k.history.seen).uses y.id.0)
+    rests_covers place uses w is h v beside l told =
+        let b = h.0 in
+        let had = had_is (Exchanging b) h.1 in
+        let u = is.2.0 in
+        let p : Entry = Park t n y.id place uses in
+        let its_park : Contains k.es (record { entry = p; what = Some u }) =
+        subst (λ (z : ThreadNo). Contains k.es (record { entry = Park z n y.id place uses; what = Some u })) worker
+        (subst (λ (m : SessionNo). Contains k.es (record { entry = Park a.worker m y.id place uses; what = Some u })) number is.2.2) in
+        let rests = park_rests T k.es t n y.id place uses (Some u) (marks_by Had (Rests place uses) h.2 w) its_park in
+        let whats : what_of k.history.seen y.id.0 ≡ Some u = ap (λ (S : Table). S.whats y.id.0) table ∙ rests.1 in
+        let used : (table_after k.history.seen).uses y.id.0 ≡ uses = ap (λ (S : Table). S.uses y.id.0) table ∙ rests.2 in
+        let same_ : v ≡ u = some_is v u (sym beside ∙ whats) in
+        let after : k.goes.after ≡ Some v = is.2.1 ∙ ap Some (sym same_) in
+        let old = had_covers (Exchanging b) h.1 (told_before (what_of_link b.link) v had.2 after (some_is_there v.told l told)) in
+        let r = h.4.0 in
+        let c = h.4.1 in
+        let ends = passed_ends r h.4.2 c h.4.3 (λ z. subst (λ (q : Went). IsClosed q) w z) b h.1 v after l told in
+        conn_as b.server y.server b.id y.id records' c.sent.to (length l.sent) c.took.to (length l.taken) (b.uses + 1) ((table_after k.history.seen).uses y.id.0)
+        had.0 had.1 ends.all_sent ends.all_taken (sym h.3 ∙ sym used) (record_on b h.1 r h.4.2 c (inl h.4.3) (of_exchange r h.4.2 c h.4.3 b h.1) old)
+
+    touched_rests : (place : PlaceNo) → (table_after k.history.seen).conns y.id.0 ≡ IdleAt place → (v : What) → what_of k.history.seen y.id.0 ≡ Some v → (l : LinkTold) → v.told ≡ Some l
+        → CoversConn y.server y.id records' (length l.sent) (length l.taken) ((table_after k.history.seen).uses y.id.0)
+    touched_rests place idle v beside l told = by_went y.went refl k.goes.is (exch y e)
+      where
+        S : Table
+        S = table_after k.history.seen
+
+        by_went : (w : Went) → y.went ≡ w → TellsAfter a k.es y w k.goes.gone k.goes.after → ExchangeGoes s a y w k.goes.before served
+            → CoversConn y.server y.id records' (length l.sent) (length l.taken) ((table_after k.history.seen).uses y.id.0)
+        by_went Stays f g_ h = absurd (⊎_elim
+            (λ (q : (table_after k.history.seen).conns y.id.0 ≡ HeldBy g.about.thread s.number). not_idle (table_after k.history.seen) y.id.0 place g.about.thread s.number idle q)
+            (λ (q : (table_after k.history.seen).conns y.id.0 ≡ HeldBy t n). not_idle (table_after k.history.seen) y.id.0 place t n idle q)
+            (came_held y.came refl f k.goes.was refl))
+        by_went (Rests p u) f g_ h = rests_covers p u f g_ h v beside l told
+        by_went Ends f g_ h = absurd (not_both (table_after k.history.seen) y.id.0 place idle (closed_now (subst (λ (q : Went). IsClosed q) (sym f) tt)))
+        by_went (EndsTakenBack p u) f g_ h = absurd (not_both (table_after k.history.seen) y.id.0 place idle (closed_now (subst (λ (q : Went). IsClosed q) (sym f) tt)))
