@@ -505,15 +505,15 @@ module _ (ss : List SessionNow) (last : ℕ) (s a : SessionNow) (seats seats' : 
     -- ---- it rests
 
     -- behind a call that leaves it with its session or closed it doesn't rest
-    came_held : (came : Came) → y.came ≡ came → y.went ≡ Stays → TellsBefore s k.history y came k.goes.before → T.conns y.id.0 ≡ T.conns y.id.0 → (table_after k.history.seen).conns y.id.0 ≡ HeldBy g.about.thread s.number ⊎ (table_after k.history.seen).conns y.id.0 ≡ HeldBy t n
-    came_held Had c w b same_ =
+    came_held : (came : Came) → y.came ≡ came → y.went ≡ Stays → TellsBefore s k.history y came k.goes.before → ((table_after k.history.seen).conns y.id.0 ≡ HeldBy g.about.thread s.number) ⊎ ((table_after k.history.seen).conns y.id.0 ≡ HeldBy t n)
+    came_held Had c w b =
         let stays = spared y.id.0 T k.es (subst (AllSpare y.id.0) (sym (marks_by Had Stays c w)) tt) in
         let held : T.conns y.id.0 ≡ HeldBy g.about.thread s.number =
         ap (λ (i : ConnId). T.conns i.0) (sym b.1.2) ∙ held_at s b.0 there b.1.0 g (ap (λ (m : ServerNo). slice_get seats m.0) b.1.1 ∙ before.1) in
         inl (ap (λ (S : Table). S.conns y.id.0) table ∙ (stays.conn ∙ held))
-    came_held Opened c w b same_ =
+    came_held Opened c w b =
         inr (ap (λ (S : Table). S.conns y.id.0) table ∙ held_one T k.es (Open t n y.id) t n y.id (marks_by Opened Stays c w) (λ S u. put_same S.conns y.id.0 (HeldBy t n) y.id.0 refl))
-    came_held (Took place uses) c w b same_ =
+    came_held (Took place uses) c w b =
         inr (ap (λ (S : Table). S.conns y.id.0) table ∙ held_one T k.es (Take t n first place y.id uses) t n y.id (marks_by (Took place uses) Stays c w) (λ S u. put_same S.conns y.id.0 (HeldBy t n) y.id.0 refl))
 
     -- the passed exchange of a connection that comes to rest
@@ -543,15 +543,147 @@ module _ (ss : List SessionNow) (last : ℕ) (s a : SessionNow) (seats seats' : 
         → CoversConn y.server y.id records' (length l.sent) (length l.taken) ((table_after k.history.seen).uses y.id.0)
     touched_rests place idle v beside l told = by_went y.went refl k.goes.is (exch y e)
       where
-        S : Table
-        S = table_after k.history.seen
-
         by_went : (w : Went) → y.went ≡ w → TellsAfter a k.es y w k.goes.gone k.goes.after → ExchangeGoes s a y w k.goes.before served
             → CoversConn y.server y.id records' (length l.sent) (length l.taken) ((table_after k.history.seen).uses y.id.0)
         by_went Stays f g_ h = absurd (⊎_elim
             (λ (q : (table_after k.history.seen).conns y.id.0 ≡ HeldBy g.about.thread s.number). not_idle (table_after k.history.seen) y.id.0 place g.about.thread s.number idle q)
             (λ (q : (table_after k.history.seen).conns y.id.0 ≡ HeldBy t n). not_idle (table_after k.history.seen) y.id.0 place t n idle q)
-            (came_held y.came refl f k.goes.was refl))
+            (came_held y.came refl f k.goes.was))
         by_went (Rests p u) f g_ h = rests_covers p u f g_ h v beside l told
         by_went Ends f g_ h = absurd (not_both (table_after k.history.seen) y.id.0 place idle (closed_now (subst (λ (q : Went). IsClosed q) (sym f) tt)))
         by_went (EndsTakenBack p u) f g_ h = absurd (not_both (table_after k.history.seen) y.id.0 place idle (closed_now (subst (λ (q : Went). IsClosed q) (sym f) tt)))
+
+  -- ---- what sessions have
+
+  -- the session's own connection, as it is after the call
+  own_held : (d : Holding) → a.conn ≡ Some d → HeldTells d → (o : Option Touch) → x ≡ o → CoversHeld records' d
+  own_held d now tells None e = by_holding d now tells
+    where
+      by_holding : (c : Holding) → a.conn ≡ Some c → HeldTells c → CoversHeld records' c
+      by_holding (Exchanging b) f g = own_on b.server b.id (own e) b.exchange.sent_from b.exchange.taken_from b.uses (keeps.held s.number.0 s (Exchanging b) there (sym (none e).conn ∙ f) g)
+      by_holding (Resting r) f g = own_on r.server r.id (own e) r.link.sent_count r.link.taken_count r.uses (keeps.held s.number.0 s (Resting r) there (sym (none e).conn ∙ f) g)
+  own_held d now tells (Some y) e = touched_held y e d now tells
+
+  -- that of another session isn't the session's
+  other_apart : (m : SessionNow) (c : Holding) → session_of ss m.number.0 ≡ Some m → m.conn ≡ Some c → (a.number.0 ≡ m.number.0 → ⊥) → NotIts (conn_server c) (conn_id c)
+  other_apart m c is has ne b had y e f i =
+      let g = before y e in
+      let own_is = had_is y e (Exchanging b) had in
+      let at : slice_get seats b.server.0 ≡ Some g.0 = ap (λ (n : ServerNo). slice_get seats n.0) own_is.0 ∙ g.1 in
+      let at_c : slice_get seats (conn_server c).0 ≡ Some g.0 = ap (λ (n : ServerNo). slice_get seats n.0) (sym f) ∙ at in
+      let mine : (table_after g.0.seen).conns b.id.0 ≡ HeldBy g.0.about.thread s.number = held_at s (Exchanging b) there had g.0 at in
+      let its_ : (table_after g.0.seen).conns (conn_id c).0 ≡ HeldBy g.0.about.thread m.number = held_at m c is has g.0 at_c in
+      let both : HeldBy g.0.about.thread s.number ≡ HeldBy g.0.about.thread m.number = sym mine ∙ (ap (λ (n : ConnId). (table_after g.0.seen).conns n.0) i ∙ its_) in
+      ne (no_is ∙ ap (λ (n : SessionNo). n.0) (held_same g.0.about.thread s.number m.number both))
+
+  other_held : (m : SessionNow) (c : Holding) → session_of ss m.number.0 ≡ Some m → m.conn ≡ Some c → (a.number.0 ≡ m.number.0 → ⊥) → HeldTells c → CoversHeld records' c
+  other_held m (Exchanging b) is has ne tells =
+      apart_on b.server b.id (other_apart m (Exchanging b) is has ne) b.exchange.sent_from b.exchange.taken_from b.uses (keeps.held m.number.0 m (Exchanging b) is has tells)
+  other_held m (Resting r) is has ne tells =
+      apart_on r.server r.id (other_apart m (Resting r) is has ne) r.link.sent_count r.link.taken_count r.uses (keeps.held m.number.0 m (Resting r) is has tells)
+
+  held_after : (j : ℕ) (m : SessionNow) (c : Holding) → session_of ss' j ≡ Some m → m.conn ≡ Some c → HeldTells c → CoversHeld records' c
+  held_after j m c is has tells = dite (ℕ_discrete a.number.0 j)
+      (λ (e : a.number.0 ≡ j). by_over a.over refl (sym same ∙ (ap (session_of ss') e ∙ is)))
+      (λ ne.
+      let was : session_of ss j ≡ Some m = sym (placed_other ss a j ne) ∙ is in
+      let num : m.number.0 ≡ j = found_number ss j m was in
+      other_held m c (ap (session_of ss) num ∙ was) has (λ e. ne (e ∙ num)) tells)
+    where
+      by_over : (b : Bool) → a.over ≡ b → (if b then None else Some a) ≡ Some m → CoversHeld records' c
+      by_over true o e = cc
+      by_over false o e = own_held c (ap (λ (z : SessionNow). z.conn) (some_is a m e) ∙ has) tells x refl
+
+  -- ---- what rests
+
+  rests_spared : (server : ServerNo) (id : ConnId) (v : What) (g : History) (es : List Note) (r : IsAtRest seats' server id v) → slice_get seats server.0 ≡ Some g → Makes g r.seat es → AllSpare id.0 (marks_of es)
+      → (l : LinkTold) → v.told ≡ Some l → CoversConn server id records' (length l.sent) (length l.taken) ((table_after r.seat.seen).uses id.0)
+  rests_spared server id v g es r at m spare l told =
+      let T = table_after g.seen in
+      let table_is = table_alone g r.seat es m (alone server.0 g at) in
+      let stays = spared id.0 T es spare in
+      let idle : T.conns id.0 ≡ IdleAt r.place = sym stays.conn ∙ (ap (λ (S : Table). S.conns id.0) (sym table_is) ∙ r.rests) in
+      let beside : what_of g.seen id.0 ≡ Some v = sym stays.what ∙ (ap (λ (S : Table). S.whats id.0) (sym table_is) ∙ r.beside) in
+      let used : T.uses id.0 ≡ (table_after r.seat.seen).uses id.0 = sym stays.uses ∙ ap (λ (S : Table). S.uses id.0) (sym table_is) in
+      let old : IsAtRest seats server id v = record { seat = g; at = at; place = r.place; rests = idle; beside = beside } in
+      let covers : CoversConn server id records (length l.sent) (length l.taken) (T.uses id.0) =
+      subst (λ (o : Option LinkTold). IfSome o (λ z. CoversConn server id records (length z.sent) (length z.taken) (T.uses id.0))) told (keeps.rests server id v old) in
+      subst (λ (j : ℕ). CoversConn server id records' (length l.sent) (length l.taken) j) used
+      (apart_on server id (state_apart server id g at (λ h. not_idle T id.0 r.place g.about.thread s.number idle h)) (length l.sent) (length l.taken) (T.uses id.0) covers)
+
+  rests_touched : (server : ServerNo) (id : ConnId) (v : What) (r : IsAtRest seats' server id v) (y : Touch) → x ≡ Some y → y.server ≡ server → y.id ≡ id
+      → (l : LinkTold) → v.told ≡ Some l → CoversConn server id records' (length l.sent) (length l.taken) ((table_after r.seat.seen).uses id.0)
+  rests_touched server id v r y e f i l told =
+      let k = some y e in
+      let is : k.history ≡ r.seat = some_is k.history r.seat (sym k.seat ∙ (ap (λ (n : ServerNo). slice_get seats' n.0) f ∙ r.at)) in
+      let idle : (table_after k.history.seen).conns y.id.0 ≡ IdleAt r.place = ap (λ (n : ConnId). (table_after k.history.seen).conns n.0) i ∙ (ap (λ (h : History). (table_after h.seen).conns id.0) is ∙ r.rests) in
+      let beside : what_of k.history.seen y.id.0 ≡ Some v = ap (λ (n : ConnId). what_of k.history.seen n.0) i ∙ (ap (λ (h : History). what_of h.seen id.0) is ∙ r.beside) in
+      conn_as y.server server y.id id records' (length l.sent) (length l.sent) (length l.taken) (length l.taken) ((table_after k.history.seen).uses y.id.0) ((table_after r.seat.seen).uses id.0)
+      f i refl refl (ap (λ (n : ConnId). (table_after k.history.seen).uses n.0) i ∙ ap (λ (h : History). (table_after h.seen).uses id.0) is)
+      (touched_rests y e r.place idle v beside l told)
+
+  rests_after : (server : ServerNo) (id : ConnId) (v : What) (r : IsAtRest seats' server id v) → IfSome v.told (λ l. CoversConn server id records' (length l.sent) (length l.taken) ((table_after r.seat.seen).uses id.0))
+  rests_after server id v r = if_some v.told (λ l. CoversConn server id records' (length l.sent) (length l.taken) ((table_after r.seat.seen).uses id.0)) (λ l told. by_touch l told x refl)
+    where
+      back : (g : History) × (es : List Note) × (slice_get seats server.0 ≡ Some g) × Makes g r.seat es × HasMarks s.worker s.number first x (0 + server.0) es
+      back = adds_back (HasMarks s.worker s.number first x) 0 seats seats' added server.0 r.seat adds r.at
+
+      marks : marks_of back.1 ≡ marks_at s.worker s.number first x server.0
+      marks = subst (λ (i : ℕ). marks_of back.1 ≡ marks_at s.worker s.number first x i) (from_zero server.0) back.4.marks
+
+      by_touch : (l : LinkTold) → v.told ≡ Some l → (o : Option Touch) → x ≡ o → CoversConn server id records' (length l.sent) (length l.taken) ((table_after r.seat.seen).uses id.0)
+      by_touch l told None e =
+          rests_spared server id v back.0 back.1 r back.2 back.3 (subst (AllSpare id.0) (sym (marks ∙ ap (λ (o : Option Touch). marks_at s.worker s.number first o server.0) e)) tt) l told
+      by_touch l told (Some y) e =
+          let marks_y : marks_of back.1 ≡ marks_at s.worker s.number first (Some y) server.0 = marks ∙ ap (λ (o : Option Touch). marks_at s.worker s.number first o server.0) e in
+          dite (ℕ_discrete y.server.0 server.0)
+          (λ (f : y.server.0 ≡ server.0). dite (ℕ_discrete y.id.0 id.0)
+          (λ (i : y.id.0 ≡ id.0). rests_touched server id v r y e (server_is y.server server f) (conn_is y.id id i) l told)
+          (λ ne.
+          rests_spared server id v back.0 back.1 r back.2 back.3
+          (subst (AllSpare id.0) (sym (marks_y ∙ marks_here s.worker s.number first y server.0 f)) (touch_spares s.worker s.number first y id.0 ne)) l told))
+          (λ ne. rests_spared server id v back.0 back.1 r back.2 back.3 (subst (AllSpare id.0) (sym (marks_y ∙ marks_past s.worker s.number first y server.0 ne)) tt) l told)
+
+  -- ---- what wasn't opened, and what is closed
+
+  fresh_after : (server : ServerNo) (id : ConnId) (h : History) → slice_get seats' server.0 ≡ Some h → (table_after h.seen).conns id.0 ≡ Unopened → CoversConn server id records' 0 0 0
+  fresh_after server id h at unopened =
+      let b = adds_back (HasMarks s.worker s.number first x) 0 seats seats' added server.0 h adds at in
+      let T = table_after b.0.seen in
+      let table_is = table_alone b.0 h b.1 b.3 (alone server.0 b.0 b.2) in
+      let was : T.conns id.0 ≡ Unopened = unopened_before T b.1 id.0 (ap (λ (S : Table). S.conns id.0) (sym table_is) ∙ unopened) in
+      apart_on server id (state_apart server id b.0 b.2 (λ q. not_fresh T id.0 b.0.about.thread s.number was q)) 0 0 0 (keeps.fresh server id b.0 b.2 was)
+
+  over_stays : (server : ServerNo) (id : ConnId) → IsOver seats server id → IsOver seats' server id
+  over_stays server id o =
+      let b = adds_old (HasMarks s.worker s.number first x) 0 seats seats' added server.0 o.seat adds o.at in
+      let one_ = alone server.0 o.seat o.at in
+      record {
+        seat = b.0;
+        at = b.2;
+        closed = ap (λ (S : Table). S.conns id.0) (table_alone o.seat b.0 b.1 b.4 one_)
+            ∙ closed_along (table_after o.seat.seen) b.1 id.0 (sound_at o.seat.seen b.4.was.legal) (legal_alone o.seat b.0 b.1 b.4 one_) o.closed;
+      }
+
+  some_on : (server : ServerNo) (id : ConnId) → IsOver seats server id → CoversSome server id records → CoversSome server id records'
+  some_on server id o c = record {
+    sent = c.sent;
+    took = c.took;
+    count = c.count;
+    covers = apart_on server id (state_apart server id o.seat o.at (λ q. not_closed (table_after o.seat.seen) id.0 o.seat.about.thread s.number o.closed q)) c.sent c.took c.count c.covers;
+  }
+
+  abbrev Buried : ServerNo → ConnId → LinkState → Type 0
+  Buried server id l = IsOver seats' server id × (IsSome (what_of_link l).told → CoversSome server id records')
+
+  buried_after : (server : ServerNo) (id : ConnId) (l : LinkState) → Contains graves' (grave (OfConn server id) l) → Buried server id l
+  buried_after server id l c = ⊎_elim
+      (λ (old : Contains graves (grave (OfConn server id) l)). let b = keeps.buried server id l old in (over_stays server id b.0, λ tells. some_on server id b.0 (b.1 tells)))
+      (λ (new : (y : Touch) × (e : x ≡ Some y) × (server ≡ y.server) × (id ≡ y.id) × ((some y e).goes.gone ≡ Some l)).
+      let closed = (closed_link new.0 new.1 l new.4).0 in
+      subst (λ (n : ServerNo). Buried n id l) (sym new.2)
+      (subst (λ (i : ConnId). Buried new.0.server i l) (sym new.3) (closed_over new.0 new.1 closed, λ tells. closed_covers new.0 new.1 l new.4 tells)))
+      (new_grave server id l c)
+
+  pub conns_go : KeepsConns ss' seats' records' graves'
+  conns_go = record { held = held_after; rests = rests_after; fresh = fresh_after; buried = buried_after }
