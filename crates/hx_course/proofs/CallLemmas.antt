@@ -1,7 +1,7 @@
 -- The other calls of a worker keep what holds of a course: admission, the caretaker's rounds and orders; and a course begins.
 use Rattle.std.proofs.Common.{◌≡◌, ◌⊎◌, ⊎_elim, inl, inr, ℕ, ◌+◌, List, [], ◌∷◌, ◌++◌, refl, sym, ap, ◌∙◌, subst, append-nil, Option, Some, None}
-use Rattle.std.specs.Prelude.{Contains}
-use Rattle.std.proofs.lemmas.List.Elements.{Contains-append_left, Contains-append_right}
+use Rattle.std.specs.Prelude.{Contains, slice_get}
+use Rattle.std.proofs.lemmas.List.Elements.{Contains-append_left, Contains-append_right, Contains-append_cases}
 use Rattle.hx_base.specs.declared.numbers.ConnId.{ConnId}
 use Rattle.hx_base.specs.declared.numbers.Millis.{Millis}
 use Rattle.hx_base.specs.declared.numbers.ServerNo.{ServerNo}
@@ -13,7 +13,11 @@ use Rattle.hx_conn.specs.WhatTold.{what_of_link}
 use Rattle.hx_config.specs.Meaning.{Meaning}
 use Rattle.hx_link.specs.Nets.{NetState}
 use Rattle.hx_link.specs.Told.{LinkState}
+use Rattle.hx_pool.specs.declared.entries.Note.{Note}
+use Rattle.hx_pool.specs.History.{table_after}
 use Rattle.hx_pool.specs.SeatView.{History}
+use Rattle.hx_pool.specs.Table.{Unopened, IdleAt}
+use Rattle.hx_record.proofs.Following.{conn_none}
 use Rattle.hx_record.specs.declared.served.Served.{Served}
 use Rattle.hx_record.specs.declared.served.Told.{Told}
 use Rattle.hx_record.specs.declared.served.Told.TheVariants as line
@@ -23,20 +27,21 @@ use Rattle.hx_caretaker.specs.Rounds.{TicksAt}
 use Rattle.hx_caretaker.specs.Sweeps.{Sweep}
 use Rattle.hx_connecting.specs.Journals.{JournalRoom}
 use Rattle.hx_connecting.specs.Links.{GainsAll}
-use Rattle.hx_connecting.specs.Sessions.{SessionNow, admitted}
+use Rattle.hx_connecting.specs.Sessions.{SessionNow, Holding, admitted}
 use Rattle.hx_worker.specs.Admitting.{Admits}
 use Rattle.hx_worker.specs.Cares.{Cares}
 use Rattle.hx_worker.specs.Workers.{WorkerNow, session_of, new_worker}
 use Rattle.hx_course.specs.Calls.{AreAlone}
 use Rattle.hx_course.specs.Clients.{KeepsClients}
+use Rattle.hx_course.specs.Conns.{CoversHeld, HeldTells, KeepsConns}
 use Rattle.hx_course.specs.Courses.{KeepsCourse}
 use Rattle.hx_course.specs.Graves.{Grave, OfClient, OfConn, OfNobody, grave, AreBuried}
 use Rattle.hx_course.specs.Places.{IsClientOf, ClientIs, IsHeld, IsAtRest, IsInGrave, ConnIs, BytesGrow, LinksGoOn}
 use Rattle.hx_course.specs.Sweeping.{sweep_graves}
 use Rattle.hx_course.specs.Truths.{IsTrueNow, KeepsTruth}
-use Rattle.hx_course.proofs.CareLemmas.{CaredAt, ticks_cared, orders_cared, alone_cared, all_cared_links, sweep_no_client, rest_on}
+use Rattle.hx_course.proofs.CareLemmas.{CaredAt, ticks_cared, orders_cared, alone_cared, all_cared_links, sweep_no_client, rest_on, conns_care}
 use Rattle.hx_course.proofs.ClientLemmas.{clients_begin, clients_more, clients_admit}
-use Rattle.hx_course.proofs.Numbers.{session_old}
+use Rattle.hx_course.proofs.Numbers.{session_old, session_more}
 use Rattle.hx_course.proofs.StepLemmas.{buried_more}
 use Rattle.hx_course.proofs.TableLemmas.{none_in, one_in}
 use Rattle.hx_course.proofs.TruthLemmas.{told_same, truth_on}
@@ -49,13 +54,23 @@ truth_same ss ss' seats seats' graves graves' records go k r c =
 
 -- ---- a course begins
 
-pub course_begin : (t : ThreadNo) (config : Meaning) (seats : List History) (journals : List JournalRoom) (net : NetState) → AreAlone seats → AreBuried [] net → KeepsCourse (new_worker t config seats journals) net [] []
-course_begin t config seats journals net alone none = record {
+pub course_begin : (t : ThreadNo) (config : Meaning) (seats : List History) (journals : List JournalRoom) (net : NetState) → AreAlone seats → ((i : ℕ) (h : History) → slice_get seats i ≡ Some h → h.seen ≡ []) → AreBuried [] net → KeepsCourse (new_worker t config seats journals) net [] []
+course_begin t config seats journals net alone unused none = record {
   alone = alone;
   buried = none;
   clients = clients_begin t;
   truth = λ r c. absurd (none_in (line.Served r) c);
+  conns = record {
+    held = λ n s c e. cc;
+    rests = λ server id v r. absurd (nothing server id v r);
+    fresh = λ server id h at none. conn_none server id;
+    buried = λ server id l c. absurd (none_in (grave (OfConn server id) l) c);
+  };
 }
+  where
+    nothing : (server : ServerNo) (id : ConnId) (v : What) → IsAtRest seats server id v → ⊥
+    nothing server id v r =
+        let none : Unopened ≡ IdleAt r.place = sym (ap (λ (H : List Note). (table_after H).conns id.0) (unused server.0 r.seat r.at)) ∙ r.rests in cc
 
 -- ---- a client comes
 
@@ -82,12 +97,20 @@ module _ (w w' : WorkerNow) (net net' : NetState) (client : LinkState) (front : 
   links_admit : LinksGoOn w.sessions ss w.seats w.seats graves graves
   links_admit = record { clients = client_on; conns = conn_on; stay = λ g c. c }
 
+  -- a session that begins has no connection
+  held_on : (j : ℕ) (m : SessionNow) (c : Holding) → session_of ss j ≡ Some m → m.conn ≡ Some c → HeldTells c → CoversHeld records c
+  held_on j m c is has tells = ⊎_elim
+      (λ (was : session_of w.sessions j ≡ Some m). keeps.conns.held j m c was has tells)
+      (λ (new : (s.number.0 ≡ j) × (m ≡ s)). let none : None ≡ Some c = ap (λ (z : SessionNow). z.conn) (sym new.1) ∙ has in cc)
+      (session_more w.sessions s j m is)
+
   pub course_admit : KeepsCourse w' net' records graves
   course_admit = subst (λ (z : WorkerNow). KeepsCourse z net' records graves) (sym k.admits) (record {
     alone = keeps.alone;
     buried = subst (λ o. (o ≡ Some (links graves)) ⊎ (o ≡ None)) (sym same) keeps.buried;
     clients = clients_admit w.thread w.last w.sessions records graves n front now.0 client k.number keeps.clients;
     truth = truth_same w.sessions ss w.seats w.seats graves graves records links_admit keeps.truth;
+    conns = record { held = held_on; rests = keeps.conns.rests; fresh = keeps.conns.fresh; buried = keeps.conns.buried };
   })
     where
       links : List Grave → List LinkState
@@ -125,8 +148,20 @@ course_turned w net net' client records graves gains k =
       buried = buried_more graves more (client ∷ []) net net' refl k.buried gains;
       clients = clients_more w.thread w.last w.sessions records graves more (λ u n l c. nobody u n l (ap (λ (g : Grave). g.owner) (one_in (grave OfNobody client) (grave (OfClient u n) l) c))) k.clients;
       truth = truth_same w.sessions w.sessions w.seats w.seats graves (graves ++ more) records (links_care w w.seats graves more (λ server id v r. inl r)) k.truth;
+      conns = record {
+        held = k.conns.held;
+        rests = k.conns.rests;
+        fresh = k.conns.fresh;
+        buried = λ server id l c.
+            ⊎_elim (λ (h : Contains graves (grave (OfConn server id) l)). k.conns.buried server id l h)
+            (λ (h : Contains more (grave (OfConn server id) l)). absurd (no_conn server id (ap (λ (g : Grave). g.owner) (one_in (grave OfNobody client) (grave (OfConn server id) l) h))))
+            (Contains-append_cases graves more (grave (OfConn server id) l) c);
+      };
     }
   where
+    no_conn : (server : ServerNo) (id : ConnId) → OfNobody ≡ OfConn server id → ⊥
+    no_conn server id e = cc
+
     nobody : (u : ThreadNo) (n : SessionNo) (l : LinkState) → OfNobody ≡ OfClient u n → ⊥
     nobody u n l e = cc
 
@@ -151,6 +186,8 @@ module _ (P : ℕ → History → History → Sweep → Type 0) (cared : (i : �
         (clients_more w.thread w.last w.sessions records graves more (sweep_no_client 0 sweeps) keeps.clients)));
     truth = subst (λ (ss : List SessionNow). KeepsTruth ss w'.seats records (graves ++ more)) (sym k.sessions)
         (truth_same w.sessions w.sessions w.seats w'.seats graves (graves ++ more) records links_cared keeps.truth);
+    conns = subst (λ (ss : List SessionNow). KeepsConns ss w'.seats records (graves ++ more)) (sym k.sessions)
+        (conns_care P cared w.seats w'.seats sweeps k.cares.each keeps.alone w.sessions records graves keeps.conns);
   }
 
 -- a round of the caretaker, and an order

@@ -1,6 +1,6 @@
 -- What the caretaker closes at the seats: each link that rested so is buried as it rested, and every other is where it was.
-use Rattle.std.proofs.Common.{◌≡◌, ◌≢◌, ◌⊎◌, ⊎_elim, inl, inr, ℕ, zero, suc, ◌+◌, Bool, true, false, cond, List, [], ◌∷◌, ◌++◌, map, refl, sym, ap, ◌∙◌, subst, append_assoc, append-nil, arith, Option, Some, None}
-use Rattle.std.specs.Prelude.{Contains, slice_get, ⊤, nat_lt}
+use Rattle.std.proofs.Common.{◌≡◌, ◌≢◌, ◌⊎◌, ⊎_elim, inl, inr, ℕ, zero, suc, ◌+◌, Bool, true, false, cond, List, [], ◌∷◌, ◌++◌, map, refl, sym, ap, ◌∙◌, subst, append_assoc, append-nil, arith, length, Option, Some, None, IsSome}
+use Rattle.std.specs.Prelude.{IfSome, Contains, slice_get, ⊤, nat_lt}
 use Rattle.std.specs.List.{flat_map}
 use Rattle.std.proofs.lemmas.List.Elements.{Contains-append_left, Contains-append_right, Contains-append_cases, Contains-push}
 use mathlib.Core.Logic.{dite}
@@ -24,22 +24,28 @@ use Rattle.hx_pool.specs.Causes.{caretaker}
 use Rattle.hx_pool.specs.Purge.{round_at, round_raised}
 use Rattle.hx_pool.specs.Takeover.{counted}
 use Rattle.hx_pool.specs.Taking.{taken}
-use Rattle.hx_pool.specs.Table.{Table, Unopened, HeldBy, IdleAt, Closed, Needs, after_entry, after, empty_table, face_of}
+use Rattle.hx_pool.specs.Table.{Conn, put, Table, Unopened, HeldBy, IdleAt, Closed, Needs, after_entry, after, empty_table, face_of}
 use Rattle.hx_pool.specs.History.{is_mark, plain, marks_of, table_from, table_after, what_of, EachStep, MeetsNeeds, IsLegal}
 use Rattle.hx_pool.specs.SeatView.{About, History, Makes}
 use Rattle.hx_pool.proofs.Histories.{table_from-append, EachStep-first, EachStep-second, marks_of-append}
-use Rattle.hx_pool.proofs.Tables.{put_same, put_other, Sound, sound_at, sound_after, closed_entry}
+use Rattle.hx_pool.proofs.Tables.{put_same, put_other, Sound, sound_at, sound_after, sound_along, closed_along}
+use Rattle.hx_base.specs.declared.what.LinkTold.{LinkTold}
+use Rattle.hx_record.specs.Covers.{CoversConn}
+use Rattle.hx_record.specs.declared.served.Told.{Told}
+use Rattle.hx_connecting.specs.Sessions.{SessionNow}
 use Rattle.hx_caretaker.specs.Caring.{EachSweep, all_links}
 use Rattle.hx_caretaker.specs.Orders.{Drains, Obeys, OrdersAt}
 use Rattle.hx_caretaker.specs.Rounds.{PurgesQuota, PurgesSince, RaisesRound, Ticks, TicksAt}
 use Rattle.hx_caretaker.specs.Sweeps.{Swept, Sweep, swept_marks, sweep_marks, ClosesThem, RestedSo, IsItsLink, AreTheirLinks, Sweeps, no_sweep}
 use Rattle.hx_course.specs.Calls.{AreAlone}
+use Rattle.hx_course.specs.Conns.{CoversSome, IsOver, KeepsConns}
 use Rattle.hx_course.specs.Graves.{Grave, OfClient, OfConn, grave, links_of}
 use Rattle.hx_course.specs.Places.{IsAtRest, IsInGrave}
 use Rattle.hx_course.specs.Sweeping.{server_no, swept_graves, sweep_graves}
+use Rattle.hx_course.proofs.ConnLines.{is_some}
 use Rattle.hx_course.proofs.Numbers.{some_is}
 use Rattle.hx_course.proofs.StepLemmas.{links_both}
-use Rattle.hx_course.proofs.TableLemmas.{none_in, one_in, seen_alone, table_alone, Spares, AllSpare, spared}
+use Rattle.hx_course.proofs.TableLemmas.{none_in, one_in, seen_alone, table_alone, legal_alone, mark_note, closed_by, unopened_before, Spares, AllSpare, spared}
 
 -- ---- marks of a sweep
 
@@ -415,3 +421,291 @@ rest_on P old new sweeps cared each alone server id v r =
     let there : Contains (sweep_graves 0 sweeps) (grave (OfConn (server_no (0 + server.0)) id) k.0) = sweep_in 0 sweeps server.0 s.sweep (grave (OfConn (server_no (0 + server.0)) id) k.0) s.its k.1 in
     inr (record { link = k.0; there = subst (λ (n : ServerNo). Contains (sweep_graves 0 sweeps) (grave (OfConn n id) k.0)) no there; tells = k.2 }))
     (rest_cared r.seat s.seat (server_no (0 + server.0)) s.sweep id r.place v (alone server.0 r.seat r.at) (cared (0 + server.0) r.seat s.seat s.sweep s.does) r.rests r.beside)
+
+-- ---- the exchanges of connections
+
+-- a swept connection's link, and its marks
+pub record IsOneSwept (new : History) (t : ThreadNo) (swept : List Swept) (id : ConnId) (l : LinkState) : Type 0 where
+  pub x : Swept
+  pub id_is : x.face.id ≡ id
+  pub link : IsItsLink new x l
+  pub takes : Contains (sweep_marks t swept) (Take t caretaker false x.place x.face.id x.face.uses)
+  pub closes : Contains (sweep_marks t swept) (Close t caretaker x.face.id)
+
+one_swept : (new : History) (server n : ServerNo) (t : ThreadNo) (swept : List Swept) (links : List LinkState) (id : ConnId) (l : LinkState) → AreTheirLinks new swept links
+    → Contains (swept_graves server swept links) (grave (OfConn n id) l) → (n ≡ server) × IsOneSwept new t swept id l
+one_swept new server n t [] [] id l a c = absurd (none_in (grave (OfConn n id) l) c)
+one_swept new server n t [] (k ∷ links) id l a c = absurd a
+one_swept new server n t (x ∷ swept) [] id l a c = absurd a
+one_swept new server n t (x ∷ swept) (k ∷ links) id l a c = ⊎_elim
+    (λ (h : Contains (grave (OfConn server x.face.id) k ∷ []) (grave (OfConn n id) l)).
+    let e = one_in (grave (OfConn server x.face.id) k) (grave (OfConn n id) l) h in
+    let o : OfConn server x.face.id ≡ OfConn n id = ap (λ (g : Grave). g.owner) e in
+    let link : k ≡ l = ap (λ (g : Grave). g.link) e in
+    let id_is : x.face.id ≡ id = cc in
+    let n_is : n ≡ server = cc in
+    (n_is, record {
+      x = x;
+      id_is = id_is;
+      link = subst (λ (j : LinkState). IsItsLink new x j) link a.0;
+      takes = Contains-append_left (swept_marks t x) (sweep_marks t swept) (Take t caretaker false x.place x.face.id x.face.uses)
+          (Contains-append_left (Take t caretaker false x.place x.face.id x.face.uses ∷ []) (Close t caretaker x.face.id ∷ []) (Take t caretaker false x.place x.face.id x.face.uses)
+          (Contains-push [] (Take t caretaker false x.place x.face.id x.face.uses)));
+      closes = Contains-append_left (swept_marks t x) (sweep_marks t swept) (Close t caretaker x.face.id)
+          (Contains-push (Take t caretaker false x.place x.face.id x.face.uses ∷ []) (Close t caretaker x.face.id));
+    }))
+    (λ (h : Contains (swept_graves server swept links) (grave (OfConn n id) l)).
+    let r = one_swept new server n t swept links id l a.1 h in
+    (r.0, record {
+      x = r.1.x;
+      id_is = r.1.id_is;
+      link = r.1.link;
+      takes = Contains-append_right (swept_marks t x) (sweep_marks t swept) (Take t caretaker false r.1.x.place r.1.x.face.id r.1.x.face.uses) r.1.takes;
+      closes = Contains-append_right (swept_marks t x) (sweep_marks t swept) (Close t caretaker r.1.x.face.id) r.1.closes;
+    }))
+    (Contains-append_cases (grave (OfConn server x.face.id) k ∷ []) (swept_graves server swept links) (grave (OfConn n id) l) c)
+
+-- without a park nothing comes to rest
+idle_put : (f : ℕ → Conn) (k i : ℕ) (c : Conn) (place : PlaceNo) → (c ≡ IdleAt place → ⊥) → put f k c i ≡ IdleAt place → f i ≡ IdleAt place
+idle_put f k i c place other e = dite (ℕ_discrete i k)
+    (λ (is : i ≡ k). absurd (other (sym (put_same f k c i is) ∙ e)))
+    (λ ne. sym (put_other f k c i ne) ∙ e)
+
+idle_entry : (i : ℕ) (place : PlaceNo) (T : Table) (w : Option What) (e : Entry) (more : List Entry) → NoParks (cond (is_mark e) (e ∷ more) more) → (after_entry T w e).conns i ≡ IdleAt place
+    → T.conns i ≡ IdleAt place
+idle_entry i place T w (Open t n id) more a h = idle_put T.conns id.0 i (HeldBy t n) place (λ k. cc) h
+idle_entry i place T w (Park t n id at uses) more a h = absurd a.0
+idle_entry i place T w (Take t n first at id uses) more a h = idle_put T.conns id.0 i (HeldBy t n) place (λ k. cc) h
+idle_entry i place T w (Close t n id) more a h = idle_put T.conns id.0 i Closed place (λ k. cc) h
+idle_entry i place T w (Free t at) more a h = h
+idle_entry i place T w (Look t at found) more a h = h
+idle_entry i place T w (Up t old) more a h = h
+idle_entry i place T w (Down t old) more a h = h
+idle_entry i place T w (Count t c) more a h = h
+idle_entry i place T w (Gate t draining) more a h = h
+idle_entry i place T w (SetGate t draining) more a h = h
+idle_entry i place T w (Round t k old) more a h = h
+
+idle_before : (i : ℕ) (place : PlaceNo) (T : Table) (es : List Note) → NoParks (marks_of es) → (table_from T es).conns i ≡ IdleAt place → T.conns i ≡ IdleAt place
+idle_before i place T [] a h = h
+idle_before i place T (x ∷ xs) a h =
+    idle_entry i place T x.what x.entry (marks_of xs) a (idle_before i place (after T x) xs (what_entry i T x.what x.entry (marks_of xs) a).1 h)
+
+-- what was closed had rested before the call, and its link told what stood beside it
+record RestedBefore (old : History) (id : ConnId) (l : LinkState) : Type 0 where
+  place : PlaceNo
+  rests : (table_after old.seen).conns id.0 ≡ IdleAt place
+  beside : what_of old.seen id.0 ≡ Some (what_of_link l)
+
+rested_before : (old new : History) (es : List Note) (swept : List Swept) (m : Makes old new es) → old.about.threads ≡ 1 → HasSweepMarks old.about.thread es swept → (id : ConnId) (l : LinkState)
+    → IsOneSwept new old.about.thread swept id l → RestedBefore old id l
+rested_before old new es swept m one marks id l o =
+    let x = o.x in
+    let k = o.link.rested in
+    let t = new.about.thread in
+    let i = x.face.id in
+    let same_thread : t ≡ old.about.thread = ap (λ (b : About). b.thread) m.about in
+    let z : Note = taken t caretaker false x.place x.face in
+    let e : old.seen ++ es ≡ k.before ++ z ∷ k.behind = sym (seen_alone old new es m one) ∙ k.parts in
+    let parks : NoParks (marks_of es) = subst NoParks (sym marks.marks) (parks_both marks.lead (sweep_marks old.about.thread swept) marks.parks (sweep_parks old.about.thread swept)) in
+    let S : Table = table_after k.before in
+    let T : Table = table_after old.seen in
+    let legal : EachStep MeetsNeeds T es = legal_alone old new es m one in
+    let sound_old : Sound T = sound_at old.seen m.was.legal in
+    let whole : EachStep MeetsNeeds empty_table (k.before ++ z ∷ k.behind) = subst IsLegal k.parts m.one.legal in
+    let sound : Sound S = sound_at k.before (EachStep-first MeetsNeeds empty_table k.before (z ∷ k.behind) whole) in
+    let steps : EachStep MeetsNeeds S (z ∷ k.behind) = EachStep-second MeetsNeeds empty_table k.before (z ∷ k.behind) whole in
+    let idle : S.conns i.0 ≡ IdleAt x.place = (sound.rests x.place (face_of i x.face.uses) steps.0.0 steps.0.1).0 in
+    ⊎_elim
+    (λ (c : (b : List Note) × (old.seen ≡ k.before ++ z ∷ b)).
+    let legal_b : EachStep MeetsNeeds empty_table (k.before ++ z ∷ c.0) = subst IsLegal c.1 m.was.legal in
+    let steps_b : EachStep MeetsNeeds S (z ∷ c.0) = EachStep-second MeetsNeeds empty_table k.before (z ∷ c.0) legal_b in
+    let took : IsTaken (after S z) t i = inl (put_same S.conns i.0 (HeldBy t caretaker) i.0 refl) in
+    let is : T ≡ table_from (after S z) c.0 = ap table_after c.1 ∙ table_from-append empty_table k.before (z ∷ c.0) in
+    let stays : IsTaken T t i = subst (λ (R : Table). IsTaken R t i) (sym is) (taken_along (after S z) c.0 t i (sound_after S z sound steps_b.0) steps_b.1 took) in
+    let take : Entry = Take old.about.thread caretaker false x.place x.face.id x.face.uses in
+    let has : Contains (marks_of es) take = subst (λ (es : List Entry). Contains es take) (sym marks.marks) (Contains-append_right marks.lead (sweep_marks old.about.thread swept) take o.takes) in
+    let cut = mark_note es take has in
+    let R : Table = table_from T cut.0 in
+    let steps_c : EachStep MeetsNeeds T (cut.0 ++ cut.1 ∷ cut.2) = subst (EachStep MeetsNeeds T) cut.3 legal in
+    let first_c = EachStep-first MeetsNeeds T cut.0 (cut.1 ∷ cut.2) steps_c in
+    let sound_c : Sound R = sound_along T cut.0 sound_old first_c in
+    let needs : Needs R take = subst (Needs R) cut.4 (EachStep-second MeetsNeeds T cut.0 (cut.1 ∷ cut.2) steps_c).0 in
+    let idle_c : R.conns i.0 ≡ IdleAt x.place = (sound_c.rests x.place (face_of i x.face.uses) needs.0 needs.1).0 in
+    absurd (not_idle R t i x.place (taken_along T cut.0 t i sound_old first_c stays) idle_c))
+    (λ (c : (b : List Note) × (k.before ≡ old.seen ++ b) × (es ≡ b ++ z ∷ k.behind)).
+    let cut : marks_of es ≡ marks_of c.0 ++ marks_of (z ∷ k.behind) = ap marks_of c.2 ∙ marks_of-append c.0 (z ∷ k.behind) in
+    let none : NoParks (marks_of c.0) = parks_first (marks_of c.0) (marks_of (z ∷ k.behind)) (subst NoParks cut parks) in
+    let is : S ≡ table_from T c.0 = ap table_after c.1 ∙ table_from-append empty_table old.seen c.0 in
+    let rests : T.conns i.0 ≡ IdleAt x.place = idle_before i.0 x.place T c.0 none (ap (λ (R : Table). R.conns i.0) (sym is) ∙ idle) in
+    let beside : what_of old.seen i.0 ≡ Some (what_of_link l) = sym (what_along i.0 T c.0 none) ∙ (ap (λ (R : Table). R.whats i.0) (sym is) ∙ k.what) in
+    record { place = x.place; rests = ap (λ (n : ConnId). T.conns n.0) (sym o.id_is) ∙ rests; beside = ap (λ (n : ConnId). what_of old.seen n.0) (sym o.id_is) ∙ beside })
+    (cut_in old.seen es k.before k.behind z e)
+
+-- and is closed
+swept_closed : (old new : History) (es : List Note) (swept : List Swept) (m : Makes old new es) → old.about.threads ≡ 1 → HasSweepMarks old.about.thread es swept → (id : ConnId) (l : LinkState)
+    → IsOneSwept new old.about.thread swept id l → (table_after new.seen).conns id.0 ≡ Closed
+swept_closed old new es swept m one marks id l o =
+    let close : Entry = Close old.about.thread caretaker o.x.face.id in
+    let has : Contains (marks_of es) close = subst (λ (es : List Entry). Contains es close) (sym marks.marks) (Contains-append_right marks.lead (sweep_marks old.about.thread swept) close o.closes) in
+    let closed = closed_by (table_after old.seen) es old.about.thread caretaker o.x.face.id (sound_at old.seen m.was.legal) (legal_alone old new es m one) has in
+    ap (λ (n : ConnId). (table_after new.seen).conns n.0) (sym o.id_is) ∙ (ap (λ (S : Table). S.conns o.x.face.id.0) (table_alone old new es m one) ∙ closed)
+
+-- a seat after the call, that before it, and its sweep
+record SweptBack (P : ℕ → History → History → Sweep → Type 0) (i : ℕ) (old : List History) (k : ℕ) (h : History) : Type 0 where
+  seat : History
+  sweep : Sweep
+  at : slice_get old k ≡ Some seat
+  does : P (i + k) seat h sweep
+
+sweep_back : (P : ℕ → History → History → Sweep → Type 0) (i : ℕ) (old new : List History) (sweeps : List Sweep) (k : ℕ) (h : History) → EachSweep P i old new sweeps → slice_get new k ≡ Some h
+    → SweptBack P i old k h
+sweep_back P i [] [] [] k h a e = cc
+sweep_back P i [] [] (x ∷ sweeps) k h a e = absurd a
+sweep_back P i [] (g ∷ new) sweeps k h a e = absurd a
+sweep_back P i (f ∷ old) [] sweeps k h a e = absurd a
+sweep_back P i (f ∷ old) (g ∷ new) [] k h a e = absurd a
+sweep_back P i (f ∷ old) (g ∷ new) (x ∷ sweeps) zero h a e =
+    let is : g ≡ h = cc in
+    record { seat = f; sweep = x; at = refl; does = subst (λ (n : ℕ). P n f h x) (at_zero i) (subst (λ (z : History). P i f z x) is a.0) }
+sweep_back P i (f ∷ old) (g ∷ new) (x ∷ sweeps) (suc k) h a e =
+    let r = sweep_back P (i + 1) old new sweeps k h a.1 e in
+    record { seat = r.seat; sweep = r.sweep; at = r.at; does = subst (λ (n : ℕ). P n r.seat h r.sweep) (at_next i k) r.does }
+
+-- the seat of a sweep, before the call and after it
+record SeatOf (P : ℕ → History → History → Sweep → Type 0) (i : ℕ) (old new : List History) (k : ℕ) (x : Sweep) : Type 0 where
+  before : History
+  after : History
+  at_old : slice_get old k ≡ Some before
+  at_new : slice_get new k ≡ Some after
+  does : P (i + k) before after x
+
+seat_of : (P : ℕ → History → History → Sweep → Type 0) (i : ℕ) (old new : List History) (sweeps : List Sweep) (k : ℕ) (x : Sweep) → EachSweep P i old new sweeps → slice_get sweeps k ≡ Some x
+    → SeatOf P i old new k x
+seat_of P i [] [] [] k x a e = cc
+seat_of P i [] [] (y ∷ sweeps) k x a e = absurd a
+seat_of P i [] (g ∷ new) sweeps k x a e = absurd a
+seat_of P i (f ∷ old) [] sweeps k x a e = absurd a
+seat_of P i (f ∷ old) (g ∷ new) [] k x a e = absurd a
+seat_of P i (f ∷ old) (g ∷ new) (y ∷ sweeps) zero x a e =
+    let is : y ≡ x = cc in
+    record { before = f; after = g; at_old = refl; at_new = refl; does = subst (λ (n : ℕ). P n f g x) (at_zero i) (subst (λ (z : Sweep). P i f g z) is a.0) }
+seat_of P i (f ∷ old) (g ∷ new) (y ∷ sweeps) (suc k) x a e =
+    let r = seat_of P (i + 1) old new sweeps k x a.1 e in
+    record { before = r.before; after = r.after; at_old = r.at_old; at_new = r.at_new; does = subst (λ (n : ℕ). P n r.before r.after x) (at_next i k) r.does }
+
+-- a grave among all, by the number of its server
+sweep_has : (i : ℕ) (sweeps : List Sweep) (y : Grave) → Contains (sweep_graves i sweeps) y
+    → (k : ℕ) × (x : Sweep) × (slice_get sweeps k ≡ Some x) × Contains (swept_graves (server_no (i + k)) x.swept x.links) y
+sweep_has i [] y c = absurd (none_in y c)
+sweep_has i (x ∷ sweeps) y c = ⊎_elim
+    (λ (h : Contains (swept_graves (server_no i) x.swept x.links) y). (0, x, refl, subst (λ (n : ℕ). Contains (swept_graves (server_no n) x.swept x.links) y) (at_zero i) h))
+    (λ (h : Contains (sweep_graves (i + 1) sweeps) y).
+    let r = sweep_has (i + 1) sweeps y h in
+    (suc r.0, r.1, r.2, subst (λ (n : ℕ). Contains (swept_graves (server_no n) r.1.swept r.1.links) y) (at_next i r.0) r.3))
+    (Contains-append_cases (swept_graves (server_no i) x.swept x.links) (sweep_graves (i + 1) sweeps) y c)
+
+not_both : (T : Table) (i : ℕ) (place : PlaceNo) → T.conns i ≡ IdleAt place → T.conns i ≡ Closed → ⊥
+not_both T i place a b = let e = sym a ∙ b in cc
+
+module _ (P : ℕ → History → History → Sweep → Type 0) (cared : (k : ℕ) (f h : History) (x : Sweep) → P k f h x → CaredAt f h x) (old new : List History) (sweeps : List Sweep)
+    (each : EachSweep P 0 old new sweeps) (alone : AreAlone old) (ss : List SessionNow) (records : List Told) (graves : List Grave) (keeps : KeepsConns ss old records graves) where
+  -- what rests after the call rested before it
+  rests_care : (server : ServerNo) (id : ConnId) (v : What) (r : IsAtRest new server id v) → IfSome v.told (λ l. CoversConn server id records (length l.sent) (length l.taken) ((table_after r.seat.seen).uses id.0))
+  rests_care server id v r =
+      let b = sweep_back P 0 old new sweeps server.0 r.seat each r.at in
+      let g = b.seat in
+      ⊎_elim
+      (λ (q : (r.seat ≡ g) × (b.sweep ≡ no_sweep)).
+      let was : IsAtRest old server id v = record {
+        seat = g;
+        at = b.at;
+        place = r.place;
+        rests = ap (λ (h : History). (table_after h.seen).conns id.0) (sym q.0) ∙ r.rests;
+        beside = ap (λ (h : History). what_of h.seen id.0) (sym q.0) ∙ r.beside;
+      } in
+      subst (λ (n : ℕ). IfSome v.told (λ l. CoversConn server id records (length l.sent) (length l.taken) n)) (ap (λ (h : History). (table_after h.seen).uses id.0) (sym q.0)) (keeps.rests server id v was))
+      (λ (s : IsSwept g r.seat b.sweep).
+      let one = alone server.0 g b.at in
+      let T = table_after g.seen in
+      let table = table_alone g r.seat b.sweep.added s.makes one in
+      ⊎_elim
+      (λ (f : (y : Swept) × (l : LinkState) × IsItsLink r.seat y l × (y.face.id ≡ id) × Contains (swept_graves server b.sweep.swept b.sweep.links) (grave (OfConn server id) l)).
+      let o = one_swept r.seat server server g.about.thread b.sweep.swept b.sweep.links id f.1 s.links f.4 in
+      absurd (not_both (table_after r.seat.seen) id.0 r.place r.rests (swept_closed g r.seat b.sweep.added b.sweep.swept s.makes one s.marks id f.1 o.1)))
+      (λ (spare : AllSpare id.0 (sweep_marks g.about.thread b.sweep.swept)).
+      let stays = spared id.0 T b.sweep.added (subst (AllSpare id.0) (sym s.marks.marks) (spare_lead id.0 s.marks.lead (sweep_marks g.about.thread b.sweep.swept) (s.marks.spares id.0) spare)) in
+      let was : IsAtRest old server id v = record {
+        seat = g;
+        at = b.at;
+        place = r.place;
+        rests = sym stays.conn ∙ (ap (λ (S : Table). S.conns id.0) (sym table) ∙ r.rests);
+        beside = sym stays.what ∙ (ap (λ (S : Table). S.whats id.0) (sym table) ∙ r.beside);
+      } in
+      subst (λ (n : ℕ). IfSome v.told (λ l. CoversConn server id records (length l.sent) (length l.taken) n)) (sym stays.uses ∙ ap (λ (S : Table). S.uses id.0) (sym table)) (keeps.rests server id v was))
+      (find_swept r.seat server g.about.thread b.sweep.swept b.sweep.links id s.links))
+      (cared (0 + server.0) g r.seat b.sweep b.does)
+
+  fresh_care : (server : ServerNo) (id : ConnId) (h : History) → slice_get new server.0 ≡ Some h → (table_after h.seen).conns id.0 ≡ Unopened → CoversConn server id records 0 0 0
+  fresh_care server id h at unopened =
+      let b = sweep_back P 0 old new sweeps server.0 h each at in
+      ⊎_elim
+      (λ (q : (h ≡ b.seat) × (b.sweep ≡ no_sweep)). keeps.fresh server id b.seat b.at (ap (λ (z : History). (table_after z.seen).conns id.0) (sym q.0) ∙ unopened))
+      (λ (s : IsSwept b.seat h b.sweep).
+      let table = table_alone b.seat h b.sweep.added s.makes (alone server.0 b.seat b.at) in
+      keeps.fresh server id b.seat b.at (unopened_before (table_after b.seat.seen) b.sweep.added id.0 (ap (λ (S : Table). S.conns id.0) (sym table) ∙ unopened)))
+      (cared (0 + server.0) b.seat h b.sweep b.does)
+
+  over_care : (server : ServerNo) (id : ConnId) → IsOver old server id → IsOver new server id
+  over_care server id o =
+      let b = sweep_at P 0 old new sweeps server.0 o.seat each o.at in
+      ⊎_elim
+      (λ (q : (b.seat ≡ o.seat) × (b.sweep ≡ no_sweep)).
+      record { seat = b.seat; at = b.at; closed = ap (λ (h : History). (table_after h.seen).conns id.0) q.0 ∙ o.closed })
+      (λ (s : IsSwept o.seat b.seat b.sweep).
+      let one = alone server.0 o.seat o.at in
+      record {
+        seat = b.seat;
+        at = b.at;
+        closed = ap (λ (S : Table). S.conns id.0) (table_alone o.seat b.seat b.sweep.added s.makes one)
+            ∙ closed_along (table_after o.seat.seen) b.sweep.added id.0 (sound_at o.seat.seen s.makes.was.legal) (legal_alone o.seat b.seat b.sweep.added s.makes one) o.closed;
+      })
+      (cared (0 + server.0) o.seat b.seat b.sweep b.does)
+
+  abbrev Gone : ServerNo → ConnId → LinkState → Type 0
+  Gone server id l = IsOver new server id × (IsSome (what_of_link l).told → CoversSome server id records)
+
+  -- what was closed had rested
+  swept_gone : (server : ServerNo) (id : ConnId) (l : LinkState) → Contains (sweep_graves 0 sweeps) (grave (OfConn server id) l) → Gone server id l
+  swept_gone server id l c =
+      let h = sweep_has 0 sweeps (grave (OfConn server id) l) c in
+      let x = h.1 in
+      let b = seat_of P 0 old new sweeps h.0 x each h.2 in
+      ⊎_elim
+      (λ (q : (b.after ≡ b.before) × (x ≡ no_sweep)).
+      absurd (none_in (grave (OfConn server id) l) (subst (λ (z : Sweep). Contains (swept_graves (server_no (0 + h.0)) z.swept z.links) (grave (OfConn server id) l)) q.1 h.3)))
+      (λ (s : IsSwept b.before b.after x).
+      let one = alone h.0 b.before b.at_old in
+      let o = one_swept b.after (server_no (0 + h.0)) server b.before.about.thread x.swept x.links id l s.links h.3 in
+      let no : server.0 ≡ h.0 = ap (λ (n : ServerNo). n.0) o.0 ∙ from_zero h.0 in
+      let r = rested_before b.before b.after x.added x.swept s.makes one s.marks id l o.1 in
+      let was : IsAtRest old server id (what_of_link l) = record { seat = b.before; at = ap (slice_get old) no ∙ b.at_old; place = r.place; rests = r.rests; beside = r.beside } in
+      (record { seat = b.after; at = ap (slice_get new) no ∙ b.at_new; closed = swept_closed b.before b.after x.added x.swept s.makes one s.marks id l o.1 },
+      λ tells.
+      let m = is_some (what_of_link l).told tells in
+      record {
+        sent = length m.0.sent;
+        took = length m.0.taken;
+        count = (table_after b.before.seen).uses id.0;
+        covers = subst (λ (z : Option LinkTold). IfSome z (λ k. CoversConn server id records (length k.sent) (length k.taken) ((table_after b.before.seen).uses id.0))) m.1 (keeps.rests server id (what_of_link l) was);
+      }))
+      (cared (0 + h.0) b.before b.after x b.does)
+
+  buried_care : (server : ServerNo) (id : ConnId) (l : LinkState) → Contains (graves ++ sweep_graves 0 sweeps) (grave (OfConn server id) l) → Gone server id l
+  buried_care server id l c = ⊎_elim
+      (λ (h : Contains graves (grave (OfConn server id) l)). let b = keeps.buried server id l h in (over_care server id b.0, b.1))
+      (λ (h : Contains (sweep_graves 0 sweeps) (grave (OfConn server id) l)). swept_gone server id l h)
+      (Contains-append_cases graves (sweep_graves 0 sweeps) (grave (OfConn server id) l) c)
+
+  pub conns_care : KeepsConns ss new records (graves ++ sweep_graves 0 sweeps)
+  conns_care = record { held = keeps.held; rests = rests_care; fresh = fresh_care; buried = buried_care }

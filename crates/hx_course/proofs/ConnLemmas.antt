@@ -1,5 +1,5 @@
 -- A call of one session carries on how far the exchanges of each connection reach in its bytes.
-use Rattle.std.proofs.Common.{◌≡◌, ◌≢◌, ◌⊎◌, ⊎_elim, inl, inr, ℕ, zero, suc, ◌+◌, Bool, true, false, List, [], ◌∷◌, ◌++◌, length, refl, sym, ap, ◌∙◌, subst, arith, Option, Some, None, IsSome}
+use Rattle.std.proofs.Common.{◌≡◌, ◌≢◌, ◌⊎◌, ⊎_elim, inl, inr, ℕ, zero, suc, ◌+◌, Bool, true, false, List, [], ◌∷◌, ◌++◌, length, refl, sym, ap, ◌∙◌, subst, arith, Option, Some, None, IsSome, eq-eqb}
 use Rattle.std.specs.Prelude.{IfSome, Contains, slice_get, if◌then◌else◌, ◌==◌}
 use Rattle.std.proofs.lemmas.List.Elements.{Contains-append_right, Contains-append_left, Contains-push}
 use mathlib.Core.Logic.{dite}
@@ -19,7 +19,7 @@ use Rattle.hx_pool.specs.declared.entries.Entry.{Entry}
 use Rattle.hx_pool.specs.declared.entries.Entry.TheVariants.{Open, Park, Take, Close}
 use Rattle.hx_pool.specs.declared.entries.Note.{Note}
 use Rattle.hx_pool.specs.History.{marks_of, table_from, table_after, what_of, EachStep, MeetsNeeds}
-use Rattle.hx_pool.specs.SeatView.{History, Makes}
+use Rattle.hx_pool.specs.SeatView.{History, Makes, StandsInOneHistory}
 use Rattle.hx_pool.specs.Table.{Table, Unopened, HeldBy, IdleAt, Closed, after_entry, face_of}
 use Rattle.hx_pool.proofs.Tables.{put_same, Sound, sound_at, closed_along}
 use Rattle.hx_record.specs.Covers.{CoversConn, FollowsConn}
@@ -40,11 +40,14 @@ use Rattle.hx_session.specs.Records.{ItsExchange, IsOfExchange}
 use Rattle.hx_session.specs.Telling.{KindTold, RecordsTold}
 use Rattle.hx_worker.proofs.ByNumber.{placed_other, placed_same, if_going}
 use Rattle.hx_worker.specs.Steps.{placed}
-use Rattle.hx_worker.specs.Workers.{session_of, NumbersRise}
+use Rattle.hx_connecting.specs.Holds.{HasJust, conn_at}
+use Rattle.hx_pool.proofs.Holding.{has_with}
+use Rattle.hx_pool.proofs.Owning.{just_has}
+use Rattle.hx_worker.specs.Workers.{Each, OwnsAll, held_of, session_of, NumbersRise}
 use Rattle.hx_course.specs.Calls.{AreAlone, HadFor, TookLast, TouchGoes}
-use Rattle.hx_course.specs.Conns.{CoversHeld, HeldTells, CoversSome, IsOver, KeepsConns, RisesThere, ExchangeRises, ConnGoesOn}
+use Rattle.hx_course.specs.Conns.{CoversHeld, HeldTells, CoversSome, IsOver, KeepsConns, ConnGoesOn}
 use Rattle.hx_course.specs.Graves.{Grave, OfConn, grave}
-use Rattle.hx_course.specs.Lines.{lines_of}
+use Rattle.hx_course.specs.Lines.{lines_of, Rises, RisesThere, ExchangeRises}
 use Rattle.hx_course.specs.Places.{IsAtRest}
 use Rattle.hx_course.proofs.ConnLines.{conn_as, lines_none, lines_one, carried_here, carried_past, own_none, told_parts, is_some, some_is_there}
 use Rattle.hx_course.proofs.GoingLemmas.{adds_old, adds_new, conn_is, server_is, goes_from, had_before, from_zero, marks_here, marks_past, touch_spares}
@@ -140,6 +143,24 @@ not_both T i place a b = let e = sym a ∙ b in cc
 held_same : (t : ThreadNo) (n m : SessionNo) → HeldBy t n ≡ HeldBy t m → n ≡ m
 held_same t n m e = cc
 
+-- ---- what the seats hold
+
+each_at : (P : History → Type 0) (seats : List History) (i : ℕ) (h : History) → Each P seats → slice_get seats i ≡ Some h → P h
+each_at P [] i h a e = cc
+each_at P (k ∷ seats) zero h a e = let is : k ≡ h = cc in subst P is a.0
+each_at P (k ∷ seats) (suc i) h a e = each_at P seats i h a.1 e
+
+-- a session's connection is held at its server's seat
+pub held_in : (seats : List History) (ss : List SessionNow) → OwnsAll seats ss → Each StandsInOneHistory seats → (m : SessionNow) (c : Holding) → session_of ss m.number.0 ≡ Some m → m.conn ≡ Some c
+    → (h : History) → slice_get seats (conn_server c).0 ≡ Some h → (table_after h.seen).conns (conn_id c).0 ≡ HeldBy h.about.thread m.number
+held_in seats ss owns all m c is has h at =
+    let i = (conn_server c).0 in
+    let one = each_at StandsInOneHistory seats i h all at in
+    let held : held_of (session_of ss m.number.0) i ≡ Some c =
+    ap (λ (o : Option SessionNow). held_of o i) is ∙ (ap (λ (o : Option Holding). conn_at o i) has ∙ ap (λ (b : Bool). if b then Some c else None) (eq-eqb i i refl)) in
+    let just : HasJust h m.number (Some c) = subst (λ (o : Option Holding). HasJust h m.number o) held (owns i h m.number at) in
+    (has_with h m.number (conn_id c).0 just.0 one (just_has h m.number (face_of (conn_id c) just.0) one just.1)).0
+
 module _ (ss : List SessionNow) (last : ℕ) (s a : SessionNow) (seats seats' : List History) (added : List (List Note)) (first : Bool) (net net' : NetState) (x : Option Touch)
     (graves graves' : List Grave) (records : List Told) (served : Option Served) (left : Option Left)
     (rise : NumbersRise 0 ss last) (there : session_of ss s.number.0 ≡ Some s) (worker : a.worker ≡ s.worker) (number : a.number ≡ s.number) (empty : a.over ≡ true → a.conn ≡ None)
@@ -147,7 +168,7 @@ module _ (ss : List SessionNow) (last : ℕ) (s a : SessionNow) (seats seats' : 
     (own : x ≡ None → IfSome served (λ r. IsOwn r.kind)) (none : x ≡ None → NoLinkGoes s a net net') (some : (y : Touch) → x ≡ Some y → TouchGoes s a seats seats' added net net' y)
     (exch : (y : Touch) (e : x ≡ Some y) → ExchangeGoes s a y y.went (some y e).goes.before served)
     (passed : (y : Touch) (e : x ≡ Some y) → IfSome served (λ r. PassedEnds s y (some y e).goes.after r.kind))
-    (goes : ConnGoesOn s a served)
+    (goes : ConnGoesOn s a served) (rising : IfSome served Rises)
     (new_grave : (server : ServerNo) (id : ConnId) (l : LinkState) → Contains graves' (grave (OfConn server id) l)
         → Contains graves (grave (OfConn server id) l) ⊎ ((y : Touch) × (e : x ≡ Some y) × (server ≡ y.server) × (id ≡ y.id) × ((some y e).goes.gone ≡ Some l)))
     (held_at : (m : SessionNow) (c : Holding) → session_of ss m.number.0 ≡ Some m → m.conn ≡ Some c → (h : History) → slice_get seats (conn_server c).0 ≡ Some h
@@ -286,7 +307,7 @@ module _ (ss : List SessionNow) (last : ℕ) (s a : SessionNow) (seats seats' : 
     record_on : (b : BusyNow) → s.conn ≡ Some (Exchanging b) → (r : Served) → served ≡ Some r → (c : Carried) → IsThe r.kind c → IsOfExchange b c
         → CoversConn b.server b.id records b.exchange.sent_from b.exchange.taken_from b.uses → CoversConn b.server b.id records' c.sent.to c.took.to (b.uses + 1)
     record_on b is r q c the o v =
-        let rises : ExchangeRises r.kind = subst (λ (z : Option Served). IfSome z (λ w. ExchangeRises w.kind)) q goes.rises in
+        let rises : ExchangeRises r.kind = (subst (λ (z : Option Served). IfSome z Rises) q rising).exchange in
         let there : RisesThere c = rises_the r.kind the rises in
         subst (λ (z : Option Served). CoversConn b.server b.id (records ++ lines_of z left) c.sent.to c.took.to (b.uses + 1)) (sym q)
         (lines_one b.server b.id records r c left b.exchange.sent_from b.exchange.taken_from b.uses (carried_the r.kind c b.server b.id the o.server o.id)

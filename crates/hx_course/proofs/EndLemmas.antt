@@ -1,4 +1,4 @@
--- At the end of a course, where nothing is left and each buried link is told: the records are true, and the clients' ranges tile.
+-- At the end of a course, where nothing is left and each buried link is told: the records are true, and their ranges tile.
 use Rattle.std.proofs.Common.{◌≡◌, ◌⊎◌, ⊎_elim, inl, inr, ℕ, Bool, true, false, List, [], ◌∷◌, length, refl, sym, ap, ◌∙◌, subst, Option, Some, None}
 use Rattle.std.specs.Prelude.{IfSome, All, Contains}
 use Rattle.std.proofs.lemmas.List.Elements.{All-weaker, All-contains_itself}
@@ -10,7 +10,8 @@ use Rattle.hx_conn.specs.WhatTold.{told_of, what_of_link}
 use Rattle.hx_link.specs.Nets.{NetState}
 use Rattle.hx_link.specs.Told.{LinkState}
 use Rattle.hx_record.specs.Carriage.{Carriage, client_carriage, conn_carriage}
-use Rattle.hx_record.specs.Tiles.{TilesClient}
+use Rattle.hx_record.specs.Tiles.{TilesClient, TilesConn}
+use Rattle.hx_record.proofs.Following.{conn_tiles}
 use Rattle.hx_record.specs.Truth.{HasRanges, IsTruePassed, IsTrueCut, IsTrueOwn}
 use Rattle.hx_record.specs.declared.bytes.ClientBytes.{ClientBytes}
 use Rattle.hx_record.specs.declared.bytes.ConnBytes.{ConnBytes}
@@ -32,6 +33,7 @@ use Rattle.hx_course.specs.Courses.{KeepsCourse}
 use Rattle.hx_course.specs.Endings.{TellsClient, TellsConn, TellsGraves, IsEmptied}
 use Rattle.hx_course.specs.Graves.{Grave, OfClient, OfConn, grave}
 use Rattle.hx_course.specs.Places.{IsClientOf, ClientIs, IsHeld, IsAtRest, IsInGrave, ConnIs}
+use Rattle.hx_course.proofs.ConnLines.{some_is_there}
 use Rattle.hx_course.specs.Truths.{left_open, WhereBoth, IsTrueOpen, IsTrueEnded, PassedNow, CutNow, OwnNow, IsTrueNow}
 
 -- ---- what the links tell
@@ -157,3 +159,14 @@ module _ (w : WorkerNow) (net : NetState) (graves : List Grave) (t : Transcript)
   -- the ranges of each client that is told tile its bytes
   pub clients_end : All (TilesClient t.records) t.clients
   clients_end = All-weaker (Contains t.clients) (TilesClient t.records) client_tiles t.clients (All-contains_itself t.clients)
+
+  conn_tiled : (c : ConnBytes) → Contains t.conns c → TilesConn t.records c
+  conn_tiled c there =
+      let g = tells.no_conn c there in
+      let told = conn_told c.server c.id g.0 (what_of_link g.0) c refl g.2 in
+      let covers = (keeps.conns.buried c.server c.id g.0 g.1).1 (some_is_there (what_of_link g.0).told (conn_tells g.0 c) told) in
+      conn_tiles t.records c covers.sent covers.took covers.count covers.covers
+
+  -- the exchanges of each connection that is told tile its bytes
+  pub conns_end : All (TilesConn t.records) t.conns
+  conns_end = All-weaker (Contains t.conns) (TilesConn t.records) conn_tiled t.conns (All-contains_itself t.conns)

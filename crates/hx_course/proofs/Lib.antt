@@ -1,13 +1,13 @@
 pub mod Numbers
 pub mod TableLemmas
-pub mod ConnLines
 pub mod LineLemmas
+pub mod ConnLines
 pub mod ClientLemmas
 pub mod TruthLemmas
 pub mod GoingLemmas
+pub mod ConnLemmas
 pub mod StepLemmas
 pub mod StopLemmas
 pub mod CareLemmas
 pub mod CallLemmas
 pub mod EndLemmas
-pub mod ConnLemmas

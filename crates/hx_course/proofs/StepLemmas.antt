@@ -3,6 +3,8 @@ use Rattle.std.proofs.Common.{◌≡◌, ◌⊎◌, ⊎_elim, inl, inr, ℕ, zer
 use Rattle.std.specs.Prelude.{IfSome, Contains, slice_get, option_map, option_to_list}
 use Rattle.std.proofs.lemmas.List.Elements.{Contains-append_cases, Contains-append_left, Contains-append_right, Contains-push}
 use Rattle.hx_base.specs.Spans.{bytes_in}
+use Rattle.hx_base.specs.declared.numbers.ConnId.{ConnId}
+use Rattle.hx_base.specs.declared.numbers.ServerNo.{ServerNo}
 use Rattle.hx_base.specs.declared.numbers.SessionNo.{SessionNo}
 use Rattle.hx_base.specs.declared.numbers.ThreadNo.{ThreadNo}
 use Rattle.hx_base.specs.declared.what.LinkTold.{LinkTold}
@@ -34,16 +36,18 @@ use Rattle.hx_session.specs.declared.step.Step.{Step}
 use Rattle.hx_worker.specs.Headline.{doing_of, conn_after}
 use Rattle.hx_session.specs.Telling.{RecordsTold}
 use Rattle.hx_worker.specs.Steps.{Steps, gone_of, buried_with, placed}
-use Rattle.hx_worker.specs.Workers.{WorkerNow, HasSessions, IsOurs, session_of}
+use Rattle.hx_worker.specs.Workers.{WorkerNow, HasSeats, HasSessions, IsOurs, session_of}
 use Rattle.hx_worker.proofs.ByNumber.{each_found}
 use Rattle.hx_course.specs.Calls.{AreAlone, HadFor, TookLast, TouchGoes, EndsExchange, IsOfMethod, step_touched, step_graves, StepTook, StepGoesOn}
 use Rattle.hx_course.specs.Clients.{KeepsClients}
+use Rattle.hx_course.specs.Conns.{KeepsConns}
 use Rattle.hx_course.specs.Courses.{KeepsCourse}
 use Rattle.hx_course.specs.Graves.{Grave, OfClient, OfConn, grave, links_of, AreBuried, conn_graves, client_graves}
 use Rattle.hx_course.specs.Lines.{served_line, left_line, lines_of}
 use Rattle.hx_course.specs.Places.{BytesGrow, LinksGoOn}
 use Rattle.hx_course.specs.Truths.{WhereBoth, IsTrueOpen, IsTrueNow, KeepsTruth}
 use Rattle.hx_course.proofs.ClientLemmas.{clients_go, not_conn}
+use Rattle.hx_course.proofs.ConnLemmas.{its_record, held_in, conns_go}
 use Rattle.hx_course.proofs.GoingLemmas.{adds_old, adds_new, links_on, record_now}
 use Rattle.hx_course.proofs.Numbers.{some_is, found_number}
 use Rattle.hx_course.proofs.TableLemmas.{none_in, one_in}
@@ -90,12 +94,13 @@ had_for s a x Ends before served e = tt
 had_for s a x (EndsTakenBack place uses) before served e = e
 
 -- what a course takes of it
-abbrev Touched : Doing → List Grave → Option What → Touch → Type 0
-Touched d graves conn y =
+abbrev Touched : Doing → List Grave → Option What → Option LinkState → Touch → Type 0
+Touched d graves conn gone y =
     (k : TouchGoes d.old d.new d.before.seats d.after.seats d.added d.before.net d.after.net y)
-    × ((l : LinkState) → k.goes.gone ≡ Some l → Contains graves (grave (OfConn y.server y.id) l)) × (conn ≡ k.goes.after)
+    × ((l : LinkState) → k.goes.gone ≡ Some l → Contains graves (grave (OfConn y.server y.id) l)) × (conn ≡ k.goes.after) × (gone ≡ k.goes.gone)
+    × ExchangeGoes d.old d.new y y.went k.goes.before d.served × IfSome d.served (λ r. PassedEnds d.old y k.goes.after r.kind)
 
-touched_one : (d : Doing) (z : Touch) (t : TouchesOne d z) → TookLast d.before.seats z.server z.id z.came t.goes.before → Touched d (conn_graves z.server z.id t.goes.gone) t.goes.after z
+touched_one : (d : Doing) (z : Touch) (t : TouchesOne d z) → TookLast d.before.seats z.server z.id z.came t.goes.before → Touched d (conn_graves z.server z.id t.goes.gone) t.goes.after t.goes.gone z
 touched_one d z t took = (
   record {
     history = t.at.history;
@@ -108,15 +113,42 @@ touched_one d z t took = (
   },
   λ l e. subst (λ (o : Option LinkState). Contains (conn_graves z.server z.id o) (grave (OfConn z.server z.id) l)) (sym e) (Contains-push [] (grave (OfConn z.server z.id) l)),
   refl,
+  refl,
+  t.exchange,
+  t.passed,
 )
 
-touched_some : (d : Doing) (x : Option Touch) (t : Touches d x) → StepTook d x t → (y : Touch) → x ≡ Some y → Touched d (step_touched d x t) (after_of d x t) y
+touched_some : (d : Doing) (x : Option Touch) (t : Touches d x) → StepTook d x t → (y : Touch) → x ≡ Some y → Touched d (step_touched d x t) (after_of d x t) (gone_of d x t) y
 touched_some d None t took y e = cc
-touched_some d (Some z) t took y e = subst (λ (q : Touch). Touched d (conn_graves z.server z.id t.goes.gone) t.goes.after q) (some_is z y e) (touched_one d z t took)
+touched_some d (Some z) t took y e = subst (λ (q : Touch). Touched d (conn_graves z.server z.id t.goes.gone) t.goes.after t.goes.gone q) (some_is z y e) (touched_one d z t took)
+
+-- the grave of a connection is that of the touched one
+pub conn_grave_is : (z : Touch) (o : Option LinkState) (server : ServerNo) (id : ConnId) (l : LinkState) → Contains (conn_graves z.server z.id o) (grave (OfConn server id) l)
+    → (server ≡ z.server) × (id ≡ z.id) × (o ≡ Some l)
+conn_grave_is z None server id l c = absurd (none_in (grave (OfConn server id) l) c)
+conn_grave_is z (Some j) server id l c =
+    let e = one_in (grave (OfConn z.server z.id) j) (grave (OfConn server id) l) c in
+    let o : OfConn z.server z.id ≡ OfConn server id = ap (λ (g : Grave). g.owner) e in
+    (cc, cc, ap (λ (g : Grave). Some g.link) e)
+
+step_new : (d : Doing) (x : Option Touch) (t : Touches d x) (server : ServerNo) (id : ConnId) (l : LinkState) → Contains (step_touched d x t) (grave (OfConn server id) l)
+    → (y : Touch) × (x ≡ Some y) × (server ≡ y.server) × (id ≡ y.id) × (gone_of d x t ≡ Some l)
+step_new d None t server id l c = absurd (none_in (grave (OfConn server id) l) c)
+step_new d (Some z) t server id l c = let r = conn_grave_is z t.goes.gone server id l c in (z, refl, r.0, r.1, r.2)
+
+-- no client's grave is a connection's
+pub no_conn_grave : (over : Bool) (a : SessionNow) (server : ServerNo) (id : ConnId) (l : LinkState) → Contains (client_graves over a) (grave (OfConn server id) l) → ⊥
+no_conn_grave false a server id l c = none_in (grave (OfConn server id) l) c
+no_conn_grave true a server id l c =
+    let o : OfClient a.worker a.number ≡ OfConn server id = ap (λ (g : Grave). g.owner) (one_in (grave (OfClient a.worker a.number) a.client) (grave (OfConn server id) l) c) in cc
 
 touched_none : (d : Doing) (x : Option Touch) → Touches d x → x ≡ None → NoLinkGoes d.old d.new d.before.net d.after.net
 touched_none d None t e = t.0
 touched_none d (Some z) t e = cc
+
+own_all : (d : Doing) (x : Option Touch) → Touches d x → x ≡ None → IfSome d.served (λ r. IsOwn r.kind)
+own_all d None t e = t.1
+own_all d (Some z) t e = cc
 
 own_none : (d : Doing) (x : Option Touch) → Touches d x → (r : Served) → d.served ≡ Some r → x ≡ None → IsOwn r.kind
 own_none d None t r g e = subst (λ (o : Option Served). IfSome o (λ v. IsOwn v.kind)) g t.1
@@ -188,7 +220,7 @@ all_told ss seats records graves served left old new r c = ⊎_elim
     no_left None q = none_in (line.Served r) q
     no_left (Some l) q = let e : line.Left l ≡ line.Served r = one_in (line.Left l) (line.Served r) q in cc
 
-module _ (w w' : WorkerNow) (net net' : NetState) (n : SessionNo) (r : Step) (k : Steps w w' net net' n r) (records : List Told) (graves : List Grave) (has : HasSessions w)
+module _ (w w' : WorkerNow) (net net' : NetState) (n : SessionNo) (r : Step) (k : Steps w w' net net' n r) (records : List Told) (graves : List Grave) (has : HasSessions w) (seats : HasSeats w)
     (goes : StepGoesOn w w' net net' n r k) (keeps : KeepsCourse w net records graves) where
   abbrev s : SessionNow
   s = k.session
@@ -220,7 +252,7 @@ module _ (w w' : WorkerNow) (net net' : NetState) (n : SessionNo) (r : Step) (k 
   its : s.worker ≡ w.thread
   its = (each_found (IsOurs w.thread w.config) w.sessions n.0 s k.there has.ours).1.its
 
-  touched : (y : Touch) → x ≡ Some y → Touched d closed (after_of d x t) y
+  touched : (y : Touch) → x ≡ Some y → Touched d closed (after_of d x t) (gone_of d x t) y
   touched y e = touched_some d x t goes.took y e
 
   old_grave : (g : Grave) → Contains graves g → Contains (graves ++ more) g
@@ -265,6 +297,23 @@ module _ (w w' : WorkerNow) (net net' : NetState) (n : SessionNo) (r : Step) (k 
   clients_step = clients_go w.thread w.last w.sessions s a (after_of d x t) r.served r.left records graves closed (step_no_client d x t) has.rise its there k.step.same.worker k.step.same.number
       k.step.links.records k.step.tells.leaves goes.rises keeps.clients
 
+  new_grave : (server : ServerNo) (id : ConnId) (l : LinkState) → Contains (graves ++ more) (grave (OfConn server id) l)
+      → Contains graves (grave (OfConn server id) l) ⊎ ((y : Touch) × (e : x ≡ Some y) × (server ≡ y.server) × (id ≡ y.id) × ((touched y e).0.goes.gone ≡ Some l))
+  new_grave server id l c =
+      let g = grave (OfConn server id) l in
+      ⊎_elim (λ (old : Contains graves g). inl old)
+      (λ (new : Contains (closed ++ client_graves a.over a) g).
+      ⊎_elim
+      (λ (h : Contains closed g). let r = step_new d x t server id l h in inr (r.0, r.1, r.2, r.3, sym (touched r.0 r.1).3 ∙ r.4))
+      (λ (h : Contains (client_graves a.over a) g). absurd (no_conn_grave a.over a server id l h))
+      (Contains-append_cases closed (client_graves a.over a) g new))
+      (Contains-append_cases graves (closed ++ client_graves a.over a) g c)
+
+  conns_step : KeepsConns (placed w.sessions a) w'.seats (records ++ lines) (graves ++ more)
+  conns_step = conns_go w.sessions w.last s a w.seats w'.seats d.added (is_first s) net k.mid x graves (graves ++ more) records r.served r.left has.rise there k.step.same.worker k.step.same.number empty
+      k.step.links.touches.adds keeps.alone (its_record s a (after_of d x t) r.left r.served k.step.links.records) (own_all d x t) (touched_none d x t) (λ y e. (touched y e).0)
+      (λ y e. (touched y e).4) (λ y e. (touched y e).5) goes.conn goes.rises.record_rises new_grave (held_in w.seats w.sessions seats.owns seats.one) keeps.conns
+
   pub course_step : KeepsCourse w' net' (records ++ lines) (graves ++ more)
   course_step = record {
     alone = alone_after (HasMarks s.worker s.number (is_first s) x) 0 w.seats w'.seats d.added k.step.links.touches.adds keeps.alone;
@@ -273,4 +322,5 @@ module _ (w w' : WorkerNow) (net net' : NetState) (n : SessionNo) (r : Step) (k 
         (subst (λ (m : ℕ). KeepsClients w.thread m w'.sessions (records ++ lines) (graves ++ more)) (sym k.stays.last)
         (subst (λ (ss : List SessionNow). KeepsClients w.thread w.last ss (records ++ lines) (graves ++ more)) (sym k.sessions) clients_step));
     truth = subst (λ (ss : List SessionNow). KeepsTruth ss w'.seats (records ++ lines) (graves ++ more)) (sym k.sessions) truth_step;
+    conns = subst (λ (ss : List SessionNow). KeepsConns ss w'.seats (records ++ lines) (graves ++ more)) (sym k.sessions) conns_step;
   }

@@ -1,7 +1,9 @@
 -- The stop of a worker's session keeps what holds of a course.
-use Rattle.std.proofs.Common.{◌≡◌, ◌⊎◌, inl, inr, ℕ, Bool, true, false, List, [], ◌∷◌, ◌++◌, refl, sym, ap, ◌∙◌, subst, Option, Some, None, eq-eqb}
+use Rattle.std.proofs.Common.{◌≡◌, ◌⊎◌, ⊎_elim, inl, inr, ℕ, Bool, true, false, List, [], ◌∷◌, ◌++◌, refl, sym, ap, ◌∙◌, subst, Option, Some, None, eq-eqb}
 use Rattle.std.specs.Prelude.{IfSome, Contains, if◌then◌else◌, ◌==◌}
-use Rattle.std.proofs.lemmas.List.Elements.{Contains-append_left, Contains-append_right, Contains-push}
+use Rattle.std.proofs.lemmas.List.Elements.{Contains-append_cases, Contains-append_left, Contains-append_right, Contains-push}
+use Rattle.hx_base.specs.declared.numbers.ConnId.{ConnId}
+use Rattle.hx_base.specs.declared.numbers.ServerNo.{ServerNo}
 use Rattle.hx_base.specs.declared.numbers.SessionNo.{SessionNo}
 use Rattle.hx_base.specs.declared.numbers.ThreadNo.{ThreadNo}
 use Rattle.hx_base.specs.declared.what.LinkTold.{LinkTold}
@@ -14,11 +16,12 @@ use Rattle.hx_record.specs.declared.served.Kind.TheVariants as kind
 use Rattle.hx_record.specs.declared.served.LeftCause.{LeftCause}
 use Rattle.hx_record.specs.declared.served.Served.{Served}
 use Rattle.hx_record.specs.declared.served.Told.{Told}
-use Rattle.hx_connecting.specs.Exchanges.{IsClosed}
+use Rattle.hx_record.specs.declared.served.Left.{Left}
+use Rattle.hx_connecting.specs.Exchanges.{IsClosed, ExchangeGoes, PassedEnds}
 use Rattle.hx_connecting.specs.Links.{NoLinkGoes}
-use Rattle.hx_connecting.specs.Sessions.{SessionNow, Exchanging, is_first, around_with}
+use Rattle.hx_connecting.specs.Sessions.{SessionNow, Holding, Exchanging, is_first, around_with}
 use Rattle.hx_connecting.specs.Touches.{Came, Had, Went, Ends, Touch, HasMarks}
-use Rattle.hx_connecting.specs.Ways.{IsOwn}
+use Rattle.hx_connecting.specs.Ways.{IsOwn, HasNoExchange}
 use Rattle.hx_session.specs.Doings.{Doing}
 use Rattle.hx_session.specs.Records.{ItsExchange, leaves_for}
 use Rattle.hx_session.specs.Stopping.{StopsConn, StopTouches, StopsKind, stopped_of}
@@ -26,19 +29,21 @@ use Rattle.hx_session.specs.Telling.{KindTold, RecordsTold, stopped}
 use Rattle.hx_worker.specs.declared.answers.Stopped.{Stopped}
 use Rattle.hx_worker.specs.Steps.{buried_with, placed}
 use Rattle.hx_worker.specs.Stops.{StopsOne, stop_gone_of}
-use Rattle.hx_worker.specs.Workers.{WorkerNow, HasSessions, IsOurs, session_of}
+use Rattle.hx_worker.specs.Workers.{WorkerNow, HasSeats, HasSessions, IsOurs, session_of}
 use Rattle.hx_worker.proofs.ByNumber.{each_found, session_here}
 use Rattle.hx_course.specs.Calls.{HadFor, TookLast, TouchGoes, EndsExchange, stop_touched, stopping_of, stop_graves}
 use Rattle.hx_course.specs.Clients.{KeepsClients}
+use Rattle.hx_course.specs.Conns.{KeepsConns, ConnGoesOn}
 use Rattle.hx_course.specs.Courses.{KeepsCourse}
 use Rattle.hx_course.specs.Graves.{Grave, OfClient, OfConn, grave, links_of, conn_graves, client_graves}
 use Rattle.hx_course.specs.Lines.{lines_of, TellsRising}
 use Rattle.hx_course.specs.Places.{ToldGrows, BytesGrow, LinksGoOn}
 use Rattle.hx_course.specs.Truths.{IsTrueNow, KeepsTruth}
 use Rattle.hx_course.proofs.ClientLemmas.{clients_go, not_conn}
+use Rattle.hx_course.proofs.ConnLemmas.{its_record, held_in, conns_go}
 use Rattle.hx_course.proofs.GoingLemmas.{links_on, record_now}
 use Rattle.hx_course.proofs.Numbers.{some_is}
-use Rattle.hx_course.proofs.StepLemmas.{conn_links, buried_more, alone_after, all_told}
+use Rattle.hx_course.proofs.StepLemmas.{conn_grave_is, no_conn_grave, conn_links, buried_more, alone_after, all_told}
 use Rattle.hx_course.proofs.TableLemmas.{none_in}
 use Rattle.hx_course.proofs.TruthLemmas.{told_same, truth_on}
 
@@ -72,10 +77,10 @@ placed_over s a rest e over =
 
 -- ---- the connection that it closed
 
-abbrev Touched : Doing → List Grave → Option What → Touch → Type 0
-Touched d graves conn y =
+abbrev Touched : Doing → List Grave → Option What → Option LinkState → Touch → Type 0
+Touched d graves conn gone y =
     (k : TouchGoes d.old d.new d.before.seats d.after.seats d.added d.before.net d.after.net y)
-    × ((l : LinkState) → k.goes.gone ≡ Some l → Contains graves (grave (OfConn y.server y.id) l)) × (conn ≡ k.goes.after)
+    × ((l : LinkState) → k.goes.gone ≡ Some l → Contains graves (grave (OfConn y.server y.id) l)) × (conn ≡ k.goes.after) × (gone ≡ k.goes.gone)
 
 had_ends : (w : Went) (c : Came) → w ≡ Ends → HadFor w c
 had_ends w c e = subst (λ (v : Went). HadFor v c) (sym e) tt
@@ -83,7 +88,7 @@ had_ends w c e = subst (λ (v : Went). HadFor v c) (sym e) tt
 took_had : (d : Doing) (z : Touch) (w : Option What) → z.came ≡ Had → TookLast d.before.seats z.server z.id z.came w
 took_had d z w e = subst (λ (c : Came). TookLast d.before.seats z.server z.id c w) (sym e) tt
 
-touched_one : (d : Doing) (z : Touch) (t : StopsConn d z) → Touched d (conn_graves z.server z.id t.goes.gone) t.goes.after z
+touched_one : (d : Doing) (z : Touch) (t : StopsConn d z) → Touched d (conn_graves z.server z.id t.goes.gone) t.goes.after t.goes.gone z
 touched_one d z t = (
   record {
     history = t.at.history;
@@ -96,11 +101,12 @@ touched_one d z t = (
   },
   λ l e. subst (λ (o : Option LinkState). Contains (conn_graves z.server z.id o) (grave (OfConn z.server z.id) l)) (sym e) (Contains-push [] (grave (OfConn z.server z.id) l)),
   refl,
+  refl,
 )
 
-touched_some : (d : Doing) (x : Option Touch) (t : StopTouches d x) (y : Touch) → x ≡ Some y → Touched d (stop_touched d x t) (stopped_of d x t) y
+touched_some : (d : Doing) (x : Option Touch) (t : StopTouches d x) (y : Touch) → x ≡ Some y → Touched d (stop_touched d x t) (stopped_of d x t) (stop_gone_of d x t) y
 touched_some d None t y e = cc
-touched_some d (Some z) t y e = subst (λ (q : Touch). Touched d (conn_graves z.server z.id t.goes.gone) t.goes.after q) (some_is z y e) (touched_one d z t)
+touched_some d (Some z) t y e = subst (λ (q : Touch). Touched d (conn_graves z.server z.id t.goes.gone) t.goes.after t.goes.gone q) (some_is z y e) (touched_one d z t)
 
 touched_none : (d : Doing) (x : Option Touch) → StopTouches d x → x ≡ None → NoLinkGoes d.old d.new d.before.net d.after.net
 touched_none d None t e = t.1
@@ -133,7 +139,40 @@ stop_no_client : (d : Doing) (x : Option Touch) (t : StopTouches d x) (u : Threa
 stop_no_client d None t u n l c = none_in (grave (OfClient u n) l) c
 stop_no_client d (Some x) t u n l c = not_conn x.server x.id t.goes.gone u n l c
 
-module _ (w w' : WorkerNow) (net net' : NetState) (x : Stopped) (k : StopsOne w w' net net' x) (records : List Told) (graves : List Grave) (has : HasSessions w)
+stop_new : (d : Doing) (x : Option Touch) (t : StopTouches d x) (server : ServerNo) (id : ConnId) (l : LinkState) → Contains (stop_touched d x t) (grave (OfConn server id) l)
+    → (y : Touch) × (x ≡ Some y) × (server ≡ y.server) × (id ≡ y.id) × (stop_gone_of d x t ≡ Some l)
+stop_new d None t server id l c = absurd (none_in (grave (OfConn server id) l) c)
+stop_new d (Some z) t server id l c = let r = conn_grave_is z t.goes.gone server id l c in (z, refl, r.0, r.1, r.2)
+
+went_is : (d : Doing) (x : Option Touch) → StopTouches d x → (y : Touch) → x ≡ Some y → y.went ≡ Ends
+went_is d None t y e = cc
+went_is d (Some z) t y e = ap (λ (q : Touch). q.went) (sym (some_is z y e)) ∙ t.went
+
+exch_ends : (s a : SessionNow) (y : Touch) (before : Option What) (served : Option Served) → y.went ≡ Ends → ExchangeGoes s a y y.went before served
+exch_ends s a y before served e = subst (λ (w : Went). ExchangeGoes s a y w before served) (sym e) tt
+
+passed_stop : (s : SessionNow) (y : Touch) (after : Option What) (served : Option Served) → IsClosed y.went → IfSome served (λ r. StopsKind s r.kind) → IfSome served (λ r. PassedEnds s y after r.kind)
+passed_stop s y after None c k = tt
+passed_stop s y after (Some r) c k = by_kind r.kind k
+  where
+    by_kind : (z : Kind) → StopsKind s z → PassedEnds s y after z
+    by_kind (kind.Passed q) h = absurd h
+    by_kind (kind.Cut q why) h = c
+    by_kind (kind.Own status) h = inl c
+
+-- nothing is with a session that was stopped
+conn_stopped : (s a : SessionNow) (served : Option Served) → a.conn ≡ None → ConnGoesOn s a served
+conn_stopped s a served e = record {
+  over = λ r q n. subst (λ (o : Option Holding). HasNoExchange o) (sym e) tt;
+  still = λ q r f g. let other = sym e ∙ g in cc;
+  counted = λ r g. let other = sym e ∙ g in cc;
+}
+
+own_stop : (s a : SessionNow) (conn : Option What) (left : Option Left) (served : Option Served) → s.conn ≡ None → RecordsTold s a conn left served → IfSome served (λ r. IsOwn r.kind)
+own_stop s a conn left None e t = tt
+own_stop s a conn left (Some r) e t = own_kind s a conn (leaves_for left) r r.kind e t.kind
+
+module _ (w w' : WorkerNow) (net net' : NetState) (x : Stopped) (k : StopsOne w w' net net' x) (records : List Told) (graves : List Grave) (has : HasSessions w) (seats : HasSeats w)
     (rises : TellsRising x.served (Some x.left)) (keeps : KeepsCourse w net records graves) where
   abbrev s : SessionNow
   s = k.session
@@ -177,7 +216,7 @@ module _ (w w' : WorkerNow) (net net' : NetState) (x : Stopped) (k : StopsOne w 
   gone : placed w.sessions a ≡ w'.sessions
   gone = ap (λ ss. placed ss a) k.least ∙ (placed_over s a k.others number over ∙ sym k.sessions)
 
-  touched : (y : Touch) → z ≡ Some y → Touched d closed (stopped_of d z t) y
+  touched : (y : Touch) → z ≡ Some y → Touched d closed (stopped_of d z t) (stop_gone_of d z t) y
   touched y e = touched_some d z t y e
 
   old_grave : (g : Grave) → Contains graves g → Contains (graves ++ more) g
@@ -234,6 +273,28 @@ module _ (w w' : WorkerNow) (net net' : NetState) (x : Stopped) (k : StopsOne w 
       (clients_go w.thread w.last w.sessions s a (stopped_of d z t) x.served (Some x.left) records graves closed (stop_no_client d z t) has.rise its first worker number
       (k.stop.links w.turns).records k.stop.tells.leaves rises keeps.clients)
 
+  new_grave : (server : ServerNo) (id : ConnId) (l : LinkState) → Contains (graves ++ more) (grave (OfConn server id) l)
+      → Contains graves (grave (OfConn server id) l) ⊎ ((y : Touch) × (e : z ≡ Some y) × (server ≡ y.server) × (id ≡ y.id) × ((touched y e).0.goes.gone ≡ Some l))
+  new_grave server id l c =
+      let g = grave (OfConn server id) l in
+      ⊎_elim (λ (old : Contains graves g). inl old)
+      (λ (new : Contains (closed ++ client_graves true a) g).
+      ⊎_elim
+      (λ (h : Contains closed g). let r = stop_new d z t server id l h in inr (r.0, r.1, r.2, r.3, sym (touched r.0 r.1).3 ∙ r.4))
+      (λ (h : Contains (client_graves true a) g). absurd (no_conn_grave true a server id l h))
+      (Contains-append_cases closed (client_graves true a) g new))
+      (Contains-append_cases graves (closed ++ client_graves true a) g c)
+
+  told : RecordsTold s a (stopped_of d z t) (Some x.left) x.served
+  told = (k.stop.links w.turns).records
+
+  conns_stop : KeepsConns (placed w.sessions a) w'.seats (records ++ lines) (graves ++ more)
+  conns_stop = conns_go w.sessions w.last s a w.seats w'.seats d.added (is_first s) net k.mid z graves (graves ++ more) records x.served (Some x.left) has.rise first worker number empty
+      (k.stop.links w.turns).adds keeps.alone (its_record s a (stopped_of d z t) (Some x.left) x.served told)
+      (λ e. own_stop s a (stopped_of d z t) (Some x.left) x.served (no_conn d z t e) told) (touched_none d z t) (λ y e. (touched y e).0)
+      (λ y e. exch_ends s a y (touched y e).0.goes.before x.served (went_is d z t y e)) (λ y e. passed_stop s y (touched y e).0.goes.after x.served (went_ends d z t y e) k.stop.tells.kind)
+      (conn_stopped s a x.served (stopped_conn s k.client x.served)) rises.record_rises new_grave (held_in w.seats w.sessions seats.owns seats.one) keeps.conns
+
   pub course_stop : KeepsCourse w' net' (records ++ lines) (graves ++ more)
   course_stop = record {
     alone = alone_after (HasMarks s.worker s.number (is_first s) z) 0 w.seats w'.seats d.added (k.stop.links w.turns).adds keeps.alone;
@@ -242,4 +303,5 @@ module _ (w w' : WorkerNow) (net net' : NetState) (x : Stopped) (k : StopsOne w 
         (subst (λ (m : ℕ). KeepsClients w.thread m w'.sessions (records ++ lines) (graves ++ more)) (sym k.stays.last)
         (subst (λ (ss : List SessionNow). KeepsClients w.thread w.last ss (records ++ lines) (graves ++ more)) gone clients_stop));
     truth = subst (λ (ss : List SessionNow). KeepsTruth ss w'.seats (records ++ lines) (graves ++ more)) gone truth_stop;
+    conns = subst (λ (ss : List SessionNow). KeepsConns ss w'.seats (records ++ lines) (graves ++ more)) gone conns_stop;
   }

@@ -31,6 +31,7 @@ use Rattle.hx_worker.specs.Headline.{doing_of, conn_after}
 use Rattle.hx_worker.specs.Steps.{Steps}
 use Rattle.hx_worker.specs.Stops.{StopsOne}
 use Rattle.hx_worker.specs.Workers.{WorkerNow}
+use Rattle.hx_course.specs.Conns.{ConnGoesOn}
 use Rattle.hx_course.specs.Graves.{Grave, conn_graves, client_graves}
 use Rattle.hx_course.specs.Lines.{TellsRising}
 use Rattle.hx_course.specs.Places.{BytesGrow}
@@ -108,6 +109,7 @@ pub record StepGoesOn (w w' : WorkerNow) (net net' : NetState) (n : SessionNo) (
   pub client : BytesGrow (what_of_link k.session.client) (what_of_link k.after.client)
   pub took : StepTook (doing_of w w' net net' n r k) k.step.links.touches.touch k.step.links.touches.touched
   pub method : IfSome r.served (λ v. IsOfMethod k.session k.after.client (conn_after w w' net net' n r k) v v.kind)
+  pub conn : ConnGoesOn k.session k.after r.served
   pub rises : TellsRising r.served r.left
 
 -- ---- a stop

@@ -10,9 +10,6 @@ use Rattle.hx_pool.specs.History.{table_after}
 use Rattle.hx_pool.specs.SeatView.{History}
 use Rattle.hx_pool.specs.Table.{Unopened, Closed}
 use Rattle.hx_record.specs.Covers.{CoversConn}
-use Rattle.hx_record.specs.declared.served.Carried.{Carried}
-use Rattle.hx_record.specs.declared.served.Kind.{Kind}
-use Rattle.hx_record.specs.declared.served.Kind.TheVariants as kind
 use Rattle.hx_record.specs.declared.served.Served.{Served}
 use Rattle.hx_record.specs.declared.served.Told.{Told}
 use Rattle.hx_connecting.specs.Sessions.{SessionNow, Holding, Resting, Exchanging, conn_link}
@@ -61,19 +58,8 @@ pub record KeepsConns (sessions : List SessionNow) (seats : List History) (recor
   pub buried : (server : ServerNo) (id : ConnId) (l : LinkState) → Contains graves (grave (OfConn server id) l)
       → IsOver seats server id × (IsSome (what_of_link l).told → CoversSome server id records)
 
--- the ranges of a record's exchange end no earlier than they begin
-pub record RisesThere (c : Carried) : Type 0 where
-  pub sent : c.sent.from ≤ c.sent.to
-  pub took : c.took.from ≤ c.took.to
-
-abbrev pub ExchangeRises : Kind → Type 0
-ExchangeRises (kind.Passed c) = RisesThere c
-ExchangeRises (kind.Cut c why) = RisesThere c
-ExchangeRises (kind.Own status) = ⊤
-
 -- what these need of a session's call beside what the worker says of it
 pub record ConnGoesOn (s a : SessionNow) (served : Option Served) : Type 0 where
-  pub rises : IfSome served (λ r. ExchangeRises r.kind)
   -- with the record of an exchange none is under way any more
   pub over : (r : Served) → served ≡ Some r → (IsOwn r.kind → ⊥) → HasNoExchange a.conn
   -- a connection that rests with its session is moved no byte, and its link counts what it tells

@@ -5,6 +5,7 @@ use Rattle.hx_record.specs.declared.served.Told.{Told}
 use Rattle.hx_worker.specs.Workers.{WorkerNow}
 use Rattle.hx_course.specs.Calls.{AreAlone}
 use Rattle.hx_course.specs.Clients.{KeepsClients}
+use Rattle.hx_course.specs.Conns.{KeepsConns}
 use Rattle.hx_course.specs.Graves.{Grave, AreBuried}
 use Rattle.hx_course.specs.Truths.{KeepsTruth}
 
@@ -18,3 +19,5 @@ pub record KeepsCourse (w : WorkerNow) (net : NetState) (records : List Told) (g
   pub clients : KeepsClients w.thread w.last w.sessions records graves
   -- each record is true of its links as they are now
   pub truth : KeepsTruth w.sessions w.seats records graves
+  -- the exchanges of each connection are as many as its uses, and follow each other from its first byte
+  pub conns : KeepsConns w.sessions w.seats records graves

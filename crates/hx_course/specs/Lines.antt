@@ -3,6 +3,9 @@ use Rattle.std.specs.Prelude.{◌≡◌, ◌≤◌, false, List, [], ◌∷◌, 
 use Rattle.hx_base.specs.declared.numbers.SessionNo.{SessionNo}
 use Rattle.hx_base.specs.declared.numbers.ThreadNo.{ThreadNo}
 use Rattle.hx_record.specs.Tiles.{is_line_of}
+use Rattle.hx_record.specs.declared.served.Carried.{Carried}
+use Rattle.hx_record.specs.declared.served.Kind.{Kind}
+use Rattle.hx_record.specs.declared.served.Kind.TheVariants as kind
 use Rattle.hx_record.specs.declared.served.Left.{Left}
 use Rattle.hx_record.specs.declared.served.Served.{Served}
 use Rattle.hx_record.specs.declared.served.Told.{Told}
@@ -27,10 +30,21 @@ abbrev pub AreApart : ThreadNo → SessionNo → List Told → Type 0
 AreApart t n [] = ⊤
 AreApart t n (x ∷ lines) = (is_line_of t n x ≡ false) × AreApart t n lines
 
--- the ranges of a record at its client's link end no earlier than they begin
+-- the ranges of an exchange end no earlier than they begin
+pub record RisesThere (c : Carried) : Type 0 where
+  pub sent : c.sent.from ≤ c.sent.to
+  pub took : c.took.from ≤ c.took.to
+
+abbrev pub ExchangeRises : Kind → Type 0
+ExchangeRises (kind.Passed c) = RisesThere c
+ExchangeRises (kind.Cut c why) = RisesThere c
+ExchangeRises (kind.Own status) = ⊤
+
+-- and so do those of a record at its client's link
 pub record Rises (r : Served) : Type 0 where
   pub ask : r.ask.from ≤ r.ask.to
   pub gave : r.gave.from ≤ r.gave.to
+  pub exchange : ExchangeRises r.kind
 
 -- what a call tells has such ranges
 pub record TellsRising (served : Option Served) (left : Option Left) : Type 0 where
