@@ -1,5 +1,5 @@
 -- The other calls of a worker keep what holds of a course: admission, the caretaker's rounds and orders; and a course begins.
-use Rattle.std.proofs.Common.{◌≡◌, ◌⊎◌, ⊎_elim, inl, inr, ℕ, ◌+◌, List, [], ◌∷◌, ◌++◌, refl, sym, ap, ◌∙◌, subst, append-nil, Option, Some, None}
+use Rattle.std.proofs.Common.{◌≡◌, ◌⊎◌, ⊎_elim, inl, inr, ℕ, ◌+◌, List, [], ◌∷◌, ◌++◌, refl, sym, ap, ◌∙◌, subst, append-nil, Some, None}
 use Rattle.std.specs.Prelude.{Contains, slice_get}
 use Rattle.std.proofs.lemmas.List.Elements.{Contains-append_left, Contains-append_right, Contains-append_cases}
 use Rattle.hx_base.specs.declared.numbers.ConnId.{ConnId}
@@ -18,7 +18,6 @@ use Rattle.hx_pool.specs.History.{table_after}
 use Rattle.hx_pool.specs.SeatView.{History}
 use Rattle.hx_pool.specs.Table.{Unopened, IdleAt}
 use Rattle.hx_record.proofs.Following.{conn_none}
-use Rattle.hx_record.specs.declared.served.Served.{Served}
 use Rattle.hx_record.specs.declared.served.Told.{Told}
 use Rattle.hx_record.specs.declared.served.Told.TheVariants as line
 use Rattle.hx_caretaker.specs.Caring.{all_links}
@@ -36,7 +35,7 @@ use Rattle.hx_course.specs.Clients.{KeepsClients}
 use Rattle.hx_course.specs.Conns.{CoversHeld, HeldTells, KeepsConns}
 use Rattle.hx_course.specs.Courses.{KeepsCourse}
 use Rattle.hx_course.specs.Graves.{Grave, OfClient, OfConn, OfNobody, grave, AreBuried}
-use Rattle.hx_course.specs.Places.{IsClientOf, ClientIs, IsHeld, IsAtRest, IsInGrave, ConnIs, BytesGrow, LinksGoOn}
+use Rattle.hx_course.specs.Places.{ClientIs, IsAtRest, IsInGrave, ConnIs, BytesGrow, LinksGoOn}
 use Rattle.hx_course.specs.Sweeping.{sweep_graves}
 use Rattle.hx_course.specs.Truths.{IsTrueNow, KeepsTruth}
 use Rattle.hx_course.proofs.CareLemmas.{CaredAt, ticks_cared, orders_cared, alone_cared, all_cared_links, sweep_no_client, rest_on, conns_care}

@@ -1,12 +1,10 @@
 -- What the caretaker closes at the seats: each link that rested so is buried as it rested, and every other is where it was.
-use Rattle.std.proofs.Common.{◌≡◌, ◌≢◌, ◌⊎◌, ⊎_elim, inl, inr, ℕ, zero, suc, ◌+◌, Bool, true, false, cond, List, [], ◌∷◌, ◌++◌, map, refl, sym, ap, ◌∙◌, subst, append_assoc, append-nil, arith, length, Option, Some, None, IsSome}
-use Rattle.std.specs.Prelude.{IfSome, Contains, slice_get, ⊤, nat_lt}
-use Rattle.std.specs.List.{flat_map}
+use Rattle.std.proofs.Common.{◌≡◌, ◌⊎◌, ⊎_elim, inl, inr, ℕ, zero, suc, ◌+◌, Bool, true, false, cond, List, [], ◌∷◌, ◌++◌, refl, sym, ap, ◌∙◌, subst, arith, length, Option, Some, IsSome}
+use Rattle.std.specs.Prelude.{IfSome, Contains, slice_get, ⊤}
 use Rattle.std.proofs.lemmas.List.Elements.{Contains-append_left, Contains-append_right, Contains-append_cases, Contains-push}
 use mathlib.Core.Logic.{dite}
 use native.Mathlib.Decide.{ℕ_discrete}
 use Rattle.hx_base.specs.declared.numbers.ConnId.{ConnId}
-use Rattle.hx_base.specs.declared.numbers.Face.{Face}
 use Rattle.hx_base.specs.declared.numbers.Millis.{Millis}
 use Rattle.hx_base.specs.declared.numbers.PlaceNo.{PlaceNo}
 use Rattle.hx_base.specs.declared.numbers.ServerNo.{ServerNo}
@@ -34,9 +32,9 @@ use Rattle.hx_record.specs.Covers.{CoversConn}
 use Rattle.hx_record.specs.declared.served.Told.{Told}
 use Rattle.hx_connecting.specs.Sessions.{SessionNow}
 use Rattle.hx_caretaker.specs.Caring.{EachSweep, all_links}
-use Rattle.hx_caretaker.specs.Orders.{Drains, Obeys, OrdersAt}
-use Rattle.hx_caretaker.specs.Rounds.{PurgesQuota, PurgesSince, RaisesRound, Ticks, TicksAt}
-use Rattle.hx_caretaker.specs.Sweeps.{Swept, Sweep, swept_marks, sweep_marks, ClosesThem, RestedSo, IsItsLink, AreTheirLinks, Sweeps, no_sweep}
+use Rattle.hx_caretaker.specs.Orders.{Obeys, OrdersAt}
+use Rattle.hx_caretaker.specs.Rounds.{PurgesSince, Ticks, TicksAt}
+use Rattle.hx_caretaker.specs.Sweeps.{Swept, Sweep, swept_marks, sweep_marks, ClosesThem, IsItsLink, AreTheirLinks, no_sweep}
 use Rattle.hx_course.specs.Calls.{AreAlone}
 use Rattle.hx_course.specs.Conns.{CoversSome, IsOver, KeepsConns}
 use Rattle.hx_course.specs.Graves.{Grave, OfClient, OfConn, grave, links_of}
@@ -443,26 +441,30 @@ one_swept new server n t (x ∷ swept) (k ∷ links) id l a c = ⊎_elim
     let o : OfConn server x.face.id ≡ OfConn n id = ap (λ (g : Grave). g.owner) e in
     let link : k ≡ l = ap (λ (g : Grave). g.link) e in
     let id_is : x.face.id ≡ id = cc in
-    let n_is : n ≡ server = cc in
-    (n_is, record {
-      x = x;
-      id_is = id_is;
-      link = subst (λ (j : LinkState). IsItsLink new x j) link a.0;
-      takes = Contains-append_left (swept_marks t x) (sweep_marks t swept) (Take t caretaker false x.place x.face.id x.face.uses)
-          (Contains-append_left (Take t caretaker false x.place x.face.id x.face.uses ∷ []) (Close t caretaker x.face.id ∷ []) (Take t caretaker false x.place x.face.id x.face.uses)
-          (Contains-push [] (Take t caretaker false x.place x.face.id x.face.uses)));
-      closes = Contains-append_left (swept_marks t x) (sweep_marks t swept) (Close t caretaker x.face.id)
-          (Contains-push (Take t caretaker false x.place x.face.id x.face.uses ∷ []) (Close t caretaker x.face.id));
-    }))
+    let n_is : n ≡ server = cc in (
+      n_is,
+      record {
+        x = x;
+        id_is = id_is;
+        link = subst (λ (j : LinkState). IsItsLink new x j) link a.0;
+        takes = Contains-append_left (swept_marks t x) (sweep_marks t swept) (Take t caretaker false x.place x.face.id x.face.uses)
+            (Contains-append_left (Take t caretaker false x.place x.face.id x.face.uses ∷ []) (Close t caretaker x.face.id ∷ []) (Take t caretaker false x.place x.face.id x.face.uses)
+            (Contains-push [] (Take t caretaker false x.place x.face.id x.face.uses)));
+        closes = Contains-append_left (swept_marks t x) (sweep_marks t swept) (Close t caretaker x.face.id)
+            (Contains-push (Take t caretaker false x.place x.face.id x.face.uses ∷ []) (Close t caretaker x.face.id));
+      },
+    ))
     (λ (h : Contains (swept_graves server swept links) (grave (OfConn n id) l)).
-    let r = one_swept new server n t swept links id l a.1 h in
-    (r.0, record {
-      x = r.1.x;
-      id_is = r.1.id_is;
-      link = r.1.link;
-      takes = Contains-append_right (swept_marks t x) (sweep_marks t swept) (Take t caretaker false r.1.x.place r.1.x.face.id r.1.x.face.uses) r.1.takes;
-      closes = Contains-append_right (swept_marks t x) (sweep_marks t swept) (Close t caretaker r.1.x.face.id) r.1.closes;
-    }))
+    let r = one_swept new server n t swept links id l a.1 h in (
+      r.0,
+      record {
+        x = r.1.x;
+        id_is = r.1.id_is;
+        link = r.1.link;
+        takes = Contains-append_right (swept_marks t x) (sweep_marks t swept) (Take t caretaker false r.1.x.place r.1.x.face.id r.1.x.face.uses) r.1.takes;
+        closes = Contains-append_right (swept_marks t x) (sweep_marks t swept) (Close t caretaker r.1.x.face.id) r.1.closes;
+      },
+    ))
     (Contains-append_cases (grave (OfConn server x.face.id) k ∷ []) (swept_graves server swept links) (grave (OfConn n id) l) c)
 
 -- without a park nothing comes to rest
@@ -689,16 +691,17 @@ module _ (P : ℕ → History → History → Sweep → Type 0) (cared : (k : �
       let o = one_swept b.after (server_no (0 + h.0)) server b.before.about.thread x.swept x.links id l s.links h.3 in
       let no : server.0 ≡ h.0 = ap (λ (n : ServerNo). n.0) o.0 ∙ from_zero h.0 in
       let r = rested_before b.before b.after x.added x.swept s.makes one s.marks id l o.1 in
-      let was : IsAtRest old server id (what_of_link l) = record { seat = b.before; at = ap (slice_get old) no ∙ b.at_old; place = r.place; rests = r.rests; beside = r.beside } in
-      (record { seat = b.after; at = ap (slice_get new) no ∙ b.at_new; closed = swept_closed b.before b.after x.added x.swept s.makes one s.marks id l o.1 },
-      λ tells.
-      let m = is_some (what_of_link l).told tells in
-      record {
-        sent = length m.0.sent;
-        took = length m.0.taken;
-        count = (table_after b.before.seen).uses id.0;
-        covers = subst (λ (z : Option LinkTold). IfSome z (λ k. CoversConn server id records (length k.sent) (length k.taken) ((table_after b.before.seen).uses id.0))) m.1 (keeps.rests server id (what_of_link l) was);
-      }))
+      let was : IsAtRest old server id (what_of_link l) = record { seat = b.before; at = ap (slice_get old) no ∙ b.at_old; place = r.place; rests = r.rests; beside = r.beside } in (
+        record { seat = b.after; at = ap (slice_get new) no ∙ b.at_new; closed = swept_closed b.before b.after x.added x.swept s.makes one s.marks id l o.1 },
+        λ tells.
+            let m = is_some (what_of_link l).told tells in
+            record {
+              sent = length m.0.sent;
+              took = length m.0.taken;
+              count = (table_after b.before.seen).uses id.0;
+              covers = subst (λ (z : Option LinkTold). IfSome z (λ k. CoversConn server id records (length k.sent) (length k.taken) ((table_after b.before.seen).uses id.0))) m.1 (keeps.rests server id (what_of_link l) was);
+            },
+      ))
       (cared (0 + h.0) b.before b.after x b.does)
 
   buried_care : (server : ServerNo) (id : ConnId) (l : LinkState) → Contains (graves ++ sweep_graves 0 sweeps) (grave (OfConn server id) l) → Gone server id l

@@ -1,7 +1,7 @@
 -- A call of one session carries on how far each session's records reach in its client's bytes.
-use Rattle.std.proofs.Common.{◌≡◌, ◌⊎◌, ⊎_elim, inl, inr, ℕ, ◌+◌, ◌≤◌, ◌<◌, Bool, true, false, List, [], ◌∷◌, ◌++◌, length, refl, sym, ap, ◌∙◌, subst, append_assoc, append-nil, arith, Option, Some, None}
+use Rattle.std.proofs.Common.{◌≡◌, ⊎_elim, ℕ, ◌+◌, ◌≤◌, Bool, true, false, List, [], ◌∷◌, ◌++◌, refl, sym, ap, ◌∙◌, subst, append_assoc, append-nil, arith, Option, Some, None}
 use Rattle.std.specs.Prelude.{IfSome, Contains, if◌then◌else◌}
-use Rattle.std.proofs.lemmas.List.Elements.{Contains-append_cases, Contains-push_cases}
+use Rattle.std.proofs.lemmas.List.Elements.{Contains-append_cases}
 use mathlib.Core.Logic.{dite}
 use native.Mathlib.Decide.{ℕ_discrete}
 use Rattle.hx_base.specs.declared.numbers.ConnId.{ConnId}
@@ -14,19 +14,18 @@ use Rattle.hx_record.specs.declared.served.Left.{Left}
 use Rattle.hx_record.specs.declared.served.Served.{Served}
 use Rattle.hx_record.specs.declared.served.Told.{Told}
 use Rattle.hx_connecting.specs.Sessions.{SessionNow, admitted}
-use Rattle.hx_session.specs.Records.{LeftStands, Leaves}
+use Rattle.hx_session.specs.Records.{Leaves}
 use Rattle.hx_session.specs.Telling.{RecordsTold}
 use Rattle.hx_worker.proofs.ByNumber.{placed_other, placed_same, if_going}
 use Rattle.hx_worker.specs.Steps.{placed}
 use Rattle.hx_worker.specs.Workers.{session_of, NumbersRise}
 use Rattle.hx_course.specs.Clients.{CoversOf, IsTiled, IsGone, KeepsClients}
-use Rattle.hx_course.specs.Graves.{Owner, OfClient, OfConn, Grave, grave, conn_graves, client_graves}
+use Rattle.hx_course.specs.Graves.{OfClient, OfConn, Grave, grave, conn_graves, client_graves}
 use Rattle.hx_course.specs.Lines.{served_line, left_line, lines_of, AreApart, TellsRising}
 use Rattle.hx_course.proofs.TableLemmas.{none_in, one_in}
 use Rattle.hx_course.proofs.LineLemmas.{lines_apart, covers_on, tiled_on, served_covers, left_tiles}
-use Rattle.hx_record.specs.Covers.{CoversClient}
 use Rattle.hx_record.proofs.Following.{covers_none}
-use Rattle.hx_course.proofs.Numbers.{some_is, found_number, found_low, none_above, number_is, session_more, session_none}
+use Rattle.hx_course.proofs.Numbers.{some_is, found_number, found_low, session_more, session_none}
 
 -- ---- graves
 
@@ -71,7 +70,6 @@ module _ (t : ThreadNo) (last : ℕ) (ss : List SessionNow) (s a : SessionNow) (
     (closed : List Grave) (no_client : (u : ThreadNo) (n : SessionNo) (l : LinkState) → Contains closed (grave (OfClient u n) l) → ⊥) (rise : NumbersRise 0 ss last) (its : s.worker ≡ t) (there : session_of ss s.number.0 ≡ Some s)
     (worker : a.worker ≡ s.worker) (number : a.number ≡ s.number) (told : RecordsTold s a conn left served) (leaves : Leaves a left) (rises : TellsRising served left)
     (keeps : KeepsClients t last ss records graves) where
-
   abbrev no : ℕ
   no = a.number.0
 

@@ -1,7 +1,7 @@
 -- A call of one session carries on how far the exchanges of each connection reach in its bytes.
-use Rattle.std.proofs.Common.{◌≡◌, ◌≢◌, ◌⊎◌, ⊎_elim, inl, inr, ℕ, zero, suc, ◌+◌, Bool, true, false, List, [], ◌∷◌, ◌++◌, length, refl, sym, ap, ◌∙◌, subst, arith, Option, Some, None, IsSome, eq-eqb}
-use Rattle.std.specs.Prelude.{IfSome, Contains, slice_get, if◌then◌else◌, ◌==◌}
-use Rattle.std.proofs.lemmas.List.Elements.{Contains-append_right, Contains-append_left, Contains-push}
+use Rattle.std.proofs.Common.{◌≡◌, ◌⊎◌, ⊎_elim, inl, inr, ℕ, zero, suc, ◌+◌, Bool, true, false, List, [], ◌∷◌, ◌++◌, length, refl, sym, ap, ◌∙◌, subst, arith, Option, Some, None, IsSome, eq-eqb}
+use Rattle.std.specs.Prelude.{IfSome, Contains, slice_get, if◌then◌else◌}
+use Rattle.std.proofs.lemmas.List.Elements.{Contains-append_right, Contains-push}
 use mathlib.Core.Logic.{dite}
 use native.Mathlib.Decide.{ℕ_discrete}
 use Rattle.hx_base.specs.declared.numbers.ConnId.{ConnId}
@@ -11,18 +11,18 @@ use Rattle.hx_base.specs.declared.numbers.SessionNo.{SessionNo}
 use Rattle.hx_base.specs.declared.numbers.ThreadNo.{ThreadNo}
 use Rattle.hx_base.specs.declared.what.LinkTold.{LinkTold}
 use Rattle.hx_base.specs.declared.what.What.{What}
-use Rattle.hx_conn.specs.Conns.{RestedNow, BusyNow}
+use Rattle.hx_conn.specs.Conns.{BusyNow}
 use Rattle.hx_conn.specs.WhatTold.{what_of_link}
 use Rattle.hx_link.specs.Nets.{NetState}
-use Rattle.hx_link.specs.Told.{LinkState, IsCounted}
+use Rattle.hx_link.specs.Told.{LinkState}
 use Rattle.hx_pool.specs.declared.entries.Entry.{Entry}
 use Rattle.hx_pool.specs.declared.entries.Entry.TheVariants.{Open, Park, Take, Close}
 use Rattle.hx_pool.specs.declared.entries.Note.{Note}
 use Rattle.hx_pool.specs.History.{marks_of, table_from, table_after, what_of, EachStep, MeetsNeeds}
 use Rattle.hx_pool.specs.SeatView.{History, Makes, StandsInOneHistory}
-use Rattle.hx_pool.specs.Table.{Table, Unopened, HeldBy, IdleAt, Closed, after_entry, face_of}
+use Rattle.hx_pool.specs.Table.{Table, Unopened, HeldBy, IdleAt, Closed, face_of}
 use Rattle.hx_pool.proofs.Tables.{put_same, Sound, sound_at, closed_along}
-use Rattle.hx_record.specs.Covers.{CoversConn, FollowsConn}
+use Rattle.hx_record.specs.Covers.{CoversConn}
 use Rattle.hx_record.specs.Tiles.{carried_by}
 use Rattle.hx_record.specs.declared.served.Carried.{Carried}
 use Rattle.hx_record.specs.declared.served.Kind.{Kind}
@@ -31,8 +31,8 @@ use Rattle.hx_record.specs.declared.served.Left.{Left}
 use Rattle.hx_record.specs.declared.served.LeftCause.{LeftCause}
 use Rattle.hx_record.specs.declared.served.Served.{Served}
 use Rattle.hx_record.specs.declared.served.Told.{Told}
-use Rattle.hx_connecting.specs.Exchanges.{BeginsAt, IsSameExchange, HadGoes, TookGoes, OpenedGoes, CameGoes, ExchangeGoes, IsClosed, EndsWith, PassedEnds}
-use Rattle.hx_connecting.specs.Links.{NoLinkGoes, IsSameLink, GoesOn, HasIt, TellsBefore, TellsAfter, IsBuried}
+use Rattle.hx_connecting.specs.Exchanges.{BeginsAt, HadGoes, TookGoes, OpenedGoes, CameGoes, ExchangeGoes, IsClosed, EndsWith, PassedEnds}
+use Rattle.hx_connecting.specs.Links.{NoLinkGoes, TellsBefore, TellsAfter, IsBuried}
 use Rattle.hx_connecting.specs.Sessions.{SessionNow, Holding, Resting, Exchanging, conn_id, conn_link, conn_server, IsSomeAnd}
 use Rattle.hx_connecting.specs.Touches.{Came, Had, Opened, Took, Went, Stays, Rests, Ends, EndsTakenBack, Touch, Adds, AddsEach, HasMarks, came_marks, went_marks, touch_marks, marks_at}
 use Rattle.hx_connecting.specs.Ways.{IsOwn, HasNoExchange}
@@ -44,14 +44,14 @@ use Rattle.hx_connecting.specs.Holds.{HasJust, conn_at}
 use Rattle.hx_pool.proofs.Holding.{has_with}
 use Rattle.hx_pool.proofs.Owning.{just_has}
 use Rattle.hx_worker.specs.Workers.{Each, OwnsAll, held_of, session_of, NumbersRise}
-use Rattle.hx_course.specs.Calls.{AreAlone, HadFor, TookLast, TouchGoes}
+use Rattle.hx_course.specs.Calls.{AreAlone, TookLast, TouchGoes}
 use Rattle.hx_course.specs.Conns.{CoversHeld, HeldTells, CoversSome, IsOver, KeepsConns, ConnGoesOn}
 use Rattle.hx_course.specs.Graves.{Grave, OfConn, grave}
 use Rattle.hx_course.specs.Lines.{lines_of, Rises, RisesThere, ExchangeRises}
 use Rattle.hx_course.specs.Places.{IsAtRest}
 use Rattle.hx_course.proofs.ConnLines.{conn_as, lines_none, lines_one, carried_here, carried_past, own_none, told_parts, is_some, some_is_there}
 use Rattle.hx_course.proofs.GoingLemmas.{adds_old, adds_new, conn_is, server_is, goes_from, had_before, from_zero, marks_here, marks_past, touch_spares}
-use Rattle.hx_course.proofs.Numbers.{some_is, found_number, number_is}
+use Rattle.hx_course.proofs.Numbers.{some_is, found_number}
 use Rattle.hx_course.proofs.TableLemmas.{table_alone, legal_alone, AllSpare, spared, first_needs, park_rests, closed_by, held_one, unopened_before}
 
 -- the exchange of a record
@@ -170,11 +170,10 @@ module _ (ss : List SessionNow) (last : ℕ) (s a : SessionNow) (seats seats' : 
     (passed : (y : Touch) (e : x ≡ Some y) → IfSome served (λ r. PassedEnds s y (some y e).goes.after r.kind))
     (goes : ConnGoesOn s a served) (rising : IfSome served Rises)
     (new_grave : (server : ServerNo) (id : ConnId) (l : LinkState) → Contains graves' (grave (OfConn server id) l)
-        → Contains graves (grave (OfConn server id) l) ⊎ ((y : Touch) × (e : x ≡ Some y) × (server ≡ y.server) × (id ≡ y.id) × ((some y e).goes.gone ≡ Some l)))
+    → Contains graves (grave (OfConn server id) l) ⊎ ((y : Touch) × (e : x ≡ Some y) × (server ≡ y.server) × (id ≡ y.id) × ((some y e).goes.gone ≡ Some l)))
     (held_at : (m : SessionNow) (c : Holding) → session_of ss m.number.0 ≡ Some m → m.conn ≡ Some c → (h : History) → slice_get seats (conn_server c).0 ≡ Some h
-        → (table_after h.seen).conns (conn_id c).0 ≡ HeldBy h.about.thread m.number)
+    → (table_after h.seen).conns (conn_id c).0 ≡ HeldBy h.about.thread m.number)
     (keeps : KeepsConns ss seats records graves) where
-
   abbrev ss' : List SessionNow
   ss' = placed ss a
 

@@ -1,5 +1,5 @@
 -- At the end of a course, where nothing is left and each buried link is told: the records are true, and their ranges tile.
-use Rattle.std.proofs.Common.{◌≡◌, ◌⊎◌, ⊎_elim, inl, inr, ℕ, Bool, true, false, List, [], ◌∷◌, length, refl, sym, ap, ◌∙◌, subst, Option, Some, None}
+use Rattle.std.proofs.Common.{◌≡◌, ⊎_elim, inl, inr, ℕ, Bool, true, false, List, [], length, refl, sym, ap, ◌∙◌, subst, Option, Some, None}
 use Rattle.std.specs.Prelude.{IfSome, All, Contains}
 use Rattle.std.proofs.lemmas.List.Elements.{All-weaker, All-contains_itself}
 use Rattle.hx_base.specs.declared.numbers.SessionNo.{SessionNo}
@@ -9,7 +9,7 @@ use Rattle.hx_base.specs.declared.what.What.{What}
 use Rattle.hx_conn.specs.WhatTold.{told_of, what_of_link}
 use Rattle.hx_link.specs.Nets.{NetState}
 use Rattle.hx_link.specs.Told.{LinkState}
-use Rattle.hx_record.specs.Carriage.{Carriage, client_carriage, conn_carriage}
+use Rattle.hx_record.specs.Carriage.{client_carriage, conn_carriage}
 use Rattle.hx_record.specs.Tiles.{TilesClient, TilesConn}
 use Rattle.hx_record.proofs.Following.{conn_tiles}
 use Rattle.hx_record.specs.Truth.{HasRanges, IsTruePassed, IsTrueCut, IsTrueOwn}
@@ -19,20 +19,18 @@ use Rattle.hx_record.specs.declared.served.Carried.{Carried}
 use Rattle.hx_record.specs.declared.served.CutCause.{CutCause}
 use Rattle.hx_record.specs.declared.served.Kind.{Kind}
 use Rattle.hx_record.specs.declared.served.Kind.TheVariants as kind
-use Rattle.hx_record.specs.declared.served.Left.{Left}
 use Rattle.hx_record.specs.declared.served.Served.{Served}
 use Rattle.hx_record.specs.declared.served.Told.{Told}
 use Rattle.hx_record.specs.declared.served.Told.TheVariants as line
-use Rattle.hx_script.specs.TrueTranscript.{Ends, HasClient, HasConn, LeftFor, IsTrueKind, IsTrueRecord}
+use Rattle.hx_script.specs.TrueTranscript.{Ends, HasClient, HasConn, IsTrueKind, IsTrueRecord}
 use Rattle.hx_script.specs.declared.transcript.Transcript.{Transcript}
 use Rattle.hx_connecting.specs.Sessions.{SessionNow}
 use Rattle.hx_session.specs.Records.{carriage_of}
 use Rattle.hx_worker.specs.Workers.{WorkerNow, session_of}
-use Rattle.hx_course.specs.Clients.{AreBytesOf}
 use Rattle.hx_course.specs.Courses.{KeepsCourse}
 use Rattle.hx_course.specs.Endings.{TellsClient, TellsConn, TellsGraves, IsEmptied}
-use Rattle.hx_course.specs.Graves.{Grave, OfClient, OfConn, grave}
-use Rattle.hx_course.specs.Places.{IsClientOf, ClientIs, IsHeld, IsAtRest, IsInGrave, ConnIs}
+use Rattle.hx_course.specs.Graves.{Grave, OfClient, grave}
+use Rattle.hx_course.specs.Places.{ClientIs, IsInGrave, ConnIs}
 use Rattle.hx_course.proofs.ConnLines.{some_is_there}
 use Rattle.hx_course.specs.Truths.{left_open, WhereBoth, IsTrueOpen, IsTrueEnded, PassedNow, CutNow, OwnNow, IsTrueNow}
 
@@ -112,9 +110,13 @@ module _ (w : WorkerNow) (net : NetState) (graves : List Grave) (t : Transcript)
       let g = o.0 in
       let k = tells.conns d.server d.id g.link g.there in
       let is_true : IsTrueEnded r d (client_tells p.client b.0) (conn_tells g.link k.0) =
-      both_at (what_of_link p.client).told p.conn.told (client_tells p.client b.0) (conn_tells g.link k.0) (IsTrueEnded r d) is_client (conn_told d.server d.id g.link p.conn k.0 g.tells k.2) o.1 in
-      (b.0, has_client r p.client b.0 b.1 b.2, k.0, has_conn d g.link k.0 k.1 k.2,
-      subst (λ (e : Bool). IsTruePassed r d (client_carriage b.0 false) (conn_carriage k.0 e)) (sym k.2.ended) is_true))
+      both_at (what_of_link p.client).told p.conn.told (client_tells p.client b.0) (conn_tells g.link k.0) (IsTrueEnded r d) is_client (conn_told d.server d.id g.link p.conn k.0 g.tells k.2) o.1 in (
+        b.0,
+        has_client r p.client b.0 b.1 b.2,
+        k.0,
+        has_conn d g.link k.0 k.1 k.2,
+        subst (λ (e : Bool). IsTruePassed r d (client_carriage b.0 false) (conn_carriage k.0 e)) (sym k.2.ended) is_true,
+      ))
       p.stands
 
   cut_true : (r : Served) (d : Carried) (why : CutCause) → CutNow graves r d why → IsTrueKind t ends r (kind.Cut d why)

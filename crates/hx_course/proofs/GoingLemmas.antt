@@ -1,7 +1,7 @@
 -- A call of one session: each link is somewhere still, with bytes behind its bytes.
 use Rattle.std.proofs.Common.{◌≡◌, ◌⊎◌, ⊎_elim, inl, inr, ℕ, zero, suc, ◌+◌, Bool, true, false, List, [], ◌∷◌, ◌++◌, refl, sym, ap, ◌∙◌, subst, arith, Option, Some, None, eq-eqb, ne_eqb}
 use Rattle.std.specs.Prelude.{IfSome, ◌&&◌, Contains, slice_get, if◌then◌else◌, ◌==◌}
-use Rattle.std.proofs.lemmas.List.Elements.{Contains-append_left, Contains-append_right, Contains-push}
+use Rattle.std.proofs.lemmas.List.Elements.{Contains-append_right, Contains-push}
 use mathlib.Core.Logic.{dite}
 use native.Mathlib.Decide.{ℕ_discrete}
 use Rattle.hx_base.specs.declared.numbers.ConnId.{ConnId}
@@ -14,7 +14,7 @@ use Rattle.hx_conn.specs.WhatTold.{what_of_link}
 use Rattle.hx_link.specs.Nets.{NetState}
 use Rattle.hx_link.specs.Told.{LinkState}
 use Rattle.hx_pool.specs.declared.entries.Entry.{Entry}
-use Rattle.hx_pool.specs.declared.entries.Entry.TheVariants.{Open, Park, Take, Close}
+use Rattle.hx_pool.specs.declared.entries.Entry.TheVariants.{Park, Take, Close}
 use Rattle.hx_pool.specs.declared.entries.Note.{Note}
 use Rattle.hx_pool.specs.History.{marks_of, table_after, what_of}
 use Rattle.hx_pool.specs.SeatView.{History, Makes}
@@ -37,20 +37,20 @@ use Rattle.hx_record.specs.declared.served.Told.TheVariants as line
 use Rattle.hx_connecting.specs.Exchanges.{IsClosed}
 use Rattle.hx_connecting.specs.Ways.{IsOwn}
 use Rattle.hx_session.specs.Records.{WhereTold, told_of, carriage_of, no_carriage, leaves_for, ItsExchange, EndsSession, LeftStands, Leaves, ends_after, cut_ends}
-use Rattle.hx_session.specs.Telling.{KindTold, RecordTold, RecordsTold}
+use Rattle.hx_session.specs.Telling.{KindTold, RecordsTold}
 use Rattle.hx_course.specs.Lines.{served_line, left_line, lines_of}
 use Rattle.hx_course.specs.Truths.{left_open, WhereBoth, IsTrueOpen, IsTrueEnded, PassedNow, CutNow, OwnNow, IsTrueNow}
-use Rattle.hx_connecting.specs.Links.{NoLinkGoes, IsSameLink, GoesOn, HasIt, TellsBefore, TellsAfter, IsBuried}
+use Rattle.hx_connecting.specs.Links.{NoLinkGoes, IsSameLink, GoesOn, TellsBefore, TellsAfter, IsBuried}
 use Rattle.hx_connecting.specs.Sessions.{SessionNow, Holding, Exchanging, conn_id, conn_link, conn_server}
 use Rattle.hx_connecting.specs.Touches.{Came, Had, Opened, Took, Went, Stays, Rests, Ends, EndsTakenBack, Touch, Adds, AddsEach, HasMarks, came_marks, went_marks, touch_marks, marks_at}
 use Rattle.hx_worker.proofs.ByNumber.{placed_other, placed_same, if_going}
 use Rattle.hx_worker.specs.Steps.{placed}
 use Rattle.hx_worker.specs.Workers.{session_of, NumbersRise}
 use Rattle.hx_course.specs.Calls.{EndsExchange, AreAlone, HadFor, TookLast, TouchGoes}
-use Rattle.hx_course.specs.Graves.{Grave, OfClient, OfConn, grave, conn_graves, client_graves}
-use Rattle.hx_course.specs.Places.{IsClientOf, ClientIs, IsHeld, IsAtRest, IsInGrave, ConnIs, BytesGrow, LinksGoOn}
+use Rattle.hx_course.specs.Graves.{Grave, OfClient, OfConn, grave}
+use Rattle.hx_course.specs.Places.{ClientIs, IsHeld, IsAtRest, IsInGrave, ConnIs, BytesGrow, LinksGoOn}
 use Rattle.hx_course.proofs.Numbers.{some_is, number_is}
-use Rattle.hx_course.proofs.TableLemmas.{table_alone, legal_alone, Spares, AllSpare, IsSameAt, spared, no_park, no_close, no_open, park_rests}
+use Rattle.hx_course.proofs.TableLemmas.{table_alone, legal_alone, AllSpare, spared, no_park, no_close, no_open, park_rests}
 use Rattle.hx_course.proofs.TruthLemmas.{told_same, link_grows, passed_ended, cut_open, own_open}
 
 -- ---- seats and entries by number
@@ -151,7 +151,6 @@ module _ (ss : List SessionNow) (last : ℕ) (s a : SessionNow) (seats seats' : 
     (old_grave : (g : Grave) → Contains graves g → Contains graves' g) (client_grave : a.over ≡ true → Contains graves' (grave (OfClient a.worker a.number) a.client))
     (none : x ≡ None → NoLinkGoes s a net net')
     (some : (y : Touch) → x ≡ Some y → (k : TouchGoes s a seats seats' added net net' y) × ((l : LinkState) → k.goes.gone ≡ Some l → Contains graves' (grave (OfConn y.server y.id) l))) where
-
   abbrev ss' : List SessionNow
   ss' = placed ss a
 
@@ -193,10 +192,11 @@ module _ (ss : List SessionNow) (last : ℕ) (s a : SessionNow) (seats seats' : 
       (λ (e : a.number.0 ≡ n.0).
       let is : s ≡ c.session = some_is s c.session (sym here ∙ (ap (session_of ss) e ∙ c.there)) in
       let own : a.worker ≡ t = worker ∙ (ap (λ (y : SessionNow). y.worker) is ∙ c.worker) in
-      let link : s.client ≡ l = ap (λ (y : SessionNow). y.client) is ∙ c.link in
-      (a.client,
-      subst (λ (u : ThreadNo). ClientIs ss' graves' u n a.client) own (subst (λ (m : SessionNo). ClientIs ss' graves' a.worker m a.client) (number_is a.number n e) client_now),
-      subst (λ (k : LinkState). BytesGrow (what_of_link k) (what_of_link a.client)) link grows))
+      let link : s.client ≡ l = ap (λ (y : SessionNow). y.client) is ∙ c.link in (
+        a.client,
+        subst (λ (u : ThreadNo). ClientIs ss' graves' u n a.client) own (subst (λ (m : SessionNo). ClientIs ss' graves' a.worker m a.client) (number_is a.number n e) client_now),
+        subst (λ (k : LinkState). BytesGrow (what_of_link k) (what_of_link a.client)) link grows,
+      ))
       (λ ne. (l, inl (record { session = c.session; there = placed_other ss a n.0 ne ∙ c.there; worker = c.worker; link = c.link }), told_same (what_of_link l).told))
 
   -- ---- the touched connection
@@ -259,14 +259,17 @@ module _ (ss : List SessionNow) (last : ℕ) (s a : SessionNow) (seats seats' : 
     taken_on g h es v place Had Stays ce we at now m marks idle beside had took =
         let one = alone y.server.0 g at in
         let table = table_alone g h es m one in
-        let stays = spared y.id.0 (table_after g.seen) es (subst (AllSpare y.id.0) (sym marks) tt) in
-        (v, inr (inl (record {
-          seat = h;
-          at = now;
-          place = place;
-          rests = ap (λ (S : Table). S.conns y.id.0) table ∙ (stays.conn ∙ idle);
-          beside = ap (λ (S : Table). S.whats y.id.0) table ∙ (stays.what ∙ beside);
-        })), told_same v.told)
+        let stays = spared y.id.0 (table_after g.seen) es (subst (AllSpare y.id.0) (sym marks) tt) in (
+          v,
+          inr (inl (record {
+            seat = h;
+            at = now;
+            place = place;
+            rests = ap (λ (S : Table). S.conns y.id.0) table ∙ (stays.conn ∙ idle);
+            beside = ap (λ (S : Table). S.whats y.id.0) table ∙ (stays.what ∙ beside);
+          })),
+          told_same v.told,
+        )
     taken_on g h es v place Had (Rests p n) ce we at now m marks idle beside had took =
         absurd (no_park (table_after g.seen) es s.worker s.number y.id p place n [] (sound_at g.seen m.was.legal) (legal_alone g h es m (alone y.server.0 g at)) marks idle)
     taken_on g h es v place Had Ends ce we at now m marks idle beside had took =
@@ -310,14 +313,17 @@ module _ (ss : List SessionNow) (last : ℕ) (s a : SessionNow) (seats seats' : 
     left_at : (r : IsAtRest seats server id v) (h : History) (es : List Note) → slice_get seats' server.0 ≡ Some h → Makes r.seat h es → AllSpare id.0 (marks_of es) → Goal
     left_at r h es now m spare =
         let table = table_alone r.seat h es m (alone server.0 r.seat r.at) in
-        let stays = spared id.0 (table_after r.seat.seen) es spare in
-        (v, inr (inl (record {
-          seat = h;
-          at = now;
-          place = r.place;
-          rests = ap (λ (S : Table). S.conns id.0) table ∙ (stays.conn ∙ r.rests);
-          beside = ap (λ (S : Table). S.whats id.0) table ∙ (stays.what ∙ r.beside);
-        })), told_same v.told)
+        let stays = spared id.0 (table_after r.seat.seen) es spare in (
+          v,
+          inr (inl (record {
+            seat = h;
+            at = now;
+            place = r.place;
+            rests = ap (λ (S : Table). S.conns id.0) table ∙ (stays.conn ∙ r.rests);
+            beside = ap (λ (S : Table). S.whats id.0) table ∙ (stays.what ∙ r.beside);
+          })),
+          told_same v.told,
+        )
 
     at_rest_by : (r : IsAtRest seats server id v) (h : History) (es : List Note) → slice_get seats' server.0 ≡ Some h → Makes r.seat h es → (o : Option Touch) → x ≡ o
         → marks_of es ≡ marks_at s.worker s.number first o server.0 → Goal
@@ -359,7 +365,6 @@ module _ (ss : List SessionNow) (last : ℕ) (s a : SessionNow) (seats seats' : 
 
   module _ (records : List Told) (conn : Option What) (left : Option Left) (r : Served) (told : RecordsTold s a conn left (Some r)) (leaves : Leaves a left)
       (own : x ≡ None → IsOwn r.kind) (conn_after : (y : Touch) (is : x ≡ Some y) → conn ≡ (some y is).0.goes.after) (ends : (y : Touch) → x ≡ Some y → EndsExchange y.went a.client conn r r.kind) where
-
     abbrev lines : List Told
     lines = lines_of (Some r) left
 

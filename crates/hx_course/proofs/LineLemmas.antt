@@ -1,12 +1,12 @@
 -- Lines of other sessions leave what a session's records cover, and a session's own record carries it on.
-use Rattle.std.proofs.Common.{◌≡◌, ℕ, ◌+◌, ◌≤◌, Bool, true, false, List, [], ◌∷◌, ◌++◌, length, refl, sym, ap, ◌∙◌, subst, append_assoc, append-nil, Option, Some, None, ne_eqb}
+use Rattle.std.proofs.Common.{◌≡◌, ℕ, ◌+◌, ◌≤◌, Bool, true, false, List, [], ◌∷◌, ◌++◌, refl, sym, ap, ◌∙◌, subst, append_assoc, append-nil, Option, Some, None, ne_eqb}
 use Rattle.std.specs.Prelude.{◌&&◌, ◌==◌, IfSome}
 use Rattle.hx_base.specs.declared.numbers.SessionNo.{SessionNo}
 use Rattle.hx_base.specs.declared.numbers.ThreadNo.{ThreadNo}
 use Rattle.hx_base.specs.declared.what.What.{What}
 use Rattle.hx_link.specs.Told.{LinkState}
 use Rattle.hx_record.specs.Covers.{CoversClient}
-use Rattle.hx_record.specs.Tiles.{is_of, is_line_of, TilesClient}
+use Rattle.hx_record.specs.Tiles.{is_of, TilesClient}
 use Rattle.hx_record.specs.declared.bytes.ClientBytes.{ClientBytes}
 use Rattle.hx_record.specs.declared.served.Left.{Left}
 use Rattle.hx_record.specs.declared.served.Served.{Served}
@@ -14,9 +14,9 @@ use Rattle.hx_record.specs.declared.served.Told.{Told}
 use Rattle.hx_record.specs.declared.served.Told.TheVariants as line
 use Rattle.hx_record.proofs.Following.{client_follows, client_apart, client_ends, tiles_apart}
 use Rattle.hx_connecting.specs.Sessions.{SessionNow}
-use Rattle.hx_session.specs.Records.{NoRecord, LeftStands, Leaves}
-use Rattle.hx_session.specs.Telling.{RecordTold, RecordsTold}
-use Rattle.hx_course.specs.Clients.{CoversOf, AreBytesOf, IsTiled}
+use Rattle.hx_session.specs.Records.{LeftStands}
+use Rattle.hx_session.specs.Telling.{RecordsTold}
+use Rattle.hx_course.specs.Clients.{CoversOf, IsTiled}
 use Rattle.hx_course.specs.Lines.{served_line, left_line, lines_of, AreApart, Rises}
 
 and_false : (a b : Bool) → b ≡ false → (a && b) ≡ false

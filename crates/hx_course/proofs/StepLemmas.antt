@@ -1,6 +1,6 @@
 -- A worker's step keeps what holds of a course.
-use Rattle.std.proofs.Common.{◌≡◌, ◌⊎◌, ⊎_elim, inl, inr, ℕ, zero, suc, ◌+◌, Bool, true, false, List, [], ◌∷◌, ◌++◌, map, refl, sym, ap, ◌∙◌, subst, append_assoc, append-nil, Option, Some, None}
-use Rattle.std.specs.Prelude.{IfSome, Contains, slice_get, option_map, option_to_list}
+use Rattle.std.proofs.Common.{◌≡◌, ◌⊎◌, ⊎_elim, inl, inr, ℕ, zero, suc, ◌+◌, Bool, true, false, List, [], ◌∷◌, ◌++◌, refl, sym, ap, ◌∙◌, subst, Option, Some, None}
+use Rattle.std.specs.Prelude.{IfSome, Contains, option_map}
 use Rattle.std.proofs.lemmas.List.Elements.{Contains-append_cases, Contains-append_left, Contains-append_right, Contains-push}
 use Rattle.hx_base.specs.Spans.{bytes_in}
 use Rattle.hx_base.specs.declared.numbers.ConnId.{ConnId}
@@ -14,9 +14,9 @@ use Rattle.hx_conn.specs.WhatTold.{what_of_link}
 use Rattle.hx_link.specs.Nets.{NetState}
 use Rattle.hx_link.specs.Told.{LinkState}
 use Rattle.hx_message.specs.Message.{Persists}
-use Rattle.hx_pool.specs.SeatView.{About, History, Makes}
+use Rattle.hx_pool.specs.SeatView.{About, History}
 use Rattle.hx_pool.specs.declared.entries.Note.{Note}
-use Rattle.hx_record.specs.Truth.{IsTruePassed, RecountsBytes}
+use Rattle.hx_record.specs.Truth.{IsTruePassed}
 use Rattle.hx_record.specs.declared.served.Carried.{Carried}
 use Rattle.hx_record.specs.declared.served.Kind.{Kind}
 use Rattle.hx_record.specs.declared.served.Kind.TheVariants as kind
@@ -24,16 +24,16 @@ use Rattle.hx_record.specs.declared.served.Left.{Left}
 use Rattle.hx_record.specs.declared.served.Served.{Served}
 use Rattle.hx_record.specs.declared.served.Told.{Told}
 use Rattle.hx_record.specs.declared.served.Told.TheVariants as line
-use Rattle.hx_connecting.specs.Exchanges.{IsClosed, EndsWith, ExchangeGoes, PassedEnds}
+use Rattle.hx_connecting.specs.Exchanges.{EndsWith, ExchangeGoes, PassedEnds}
 use Rattle.hx_connecting.specs.Links.{GainsAll, NoLinkGoes}
-use Rattle.hx_connecting.specs.Sessions.{SessionNow, Exchanging, is_first, IsSomeAnd}
-use Rattle.hx_connecting.specs.Touches.{Came, Had, Opened, Took, Went, Stays, Rests, Ends, EndsTakenBack, Touch, AddsEach, HasMarks}
+use Rattle.hx_connecting.specs.Sessions.{SessionNow, is_first}
+use Rattle.hx_connecting.specs.Touches.{Went, Stays, Rests, Ends, EndsTakenBack, Touch, AddsEach, HasMarks}
 use Rattle.hx_connecting.specs.Ways.{IsOwn}
 use Rattle.hx_session.specs.Doings.{Doing}
-use Rattle.hx_session.specs.Records.{WhereTold, told_of, carriage_of, Leaves}
+use Rattle.hx_session.specs.Records.{WhereTold, Leaves}
 use Rattle.hx_session.specs.Touching.{Touches, TouchesOne, after_of}
 use Rattle.hx_session.specs.declared.step.Step.{Step}
-use Rattle.hx_worker.specs.Headline.{doing_of, conn_after}
+use Rattle.hx_worker.specs.Headline.{doing_of}
 use Rattle.hx_session.specs.Telling.{RecordsTold}
 use Rattle.hx_worker.specs.Steps.{Steps, gone_of, buried_with, placed}
 use Rattle.hx_worker.specs.Workers.{WorkerNow, HasSeats, HasSessions, IsOurs, session_of}
@@ -44,11 +44,11 @@ use Rattle.hx_course.specs.Conns.{KeepsConns}
 use Rattle.hx_course.specs.Courses.{KeepsCourse}
 use Rattle.hx_course.specs.Graves.{Grave, OfClient, OfConn, grave, links_of, AreBuried, conn_graves, client_graves}
 use Rattle.hx_course.specs.Lines.{served_line, left_line, lines_of}
-use Rattle.hx_course.specs.Places.{BytesGrow, LinksGoOn}
-use Rattle.hx_course.specs.Truths.{WhereBoth, IsTrueOpen, IsTrueNow, KeepsTruth}
+use Rattle.hx_course.specs.Places.{LinksGoOn}
+use Rattle.hx_course.specs.Truths.{IsTrueOpen, IsTrueNow, KeepsTruth}
 use Rattle.hx_course.proofs.ClientLemmas.{clients_go, not_conn}
 use Rattle.hx_course.proofs.ConnLemmas.{its_record, held_in, conns_go}
-use Rattle.hx_course.proofs.GoingLemmas.{adds_old, adds_new, links_on, record_now}
+use Rattle.hx_course.proofs.GoingLemmas.{links_on, record_now}
 use Rattle.hx_course.proofs.Numbers.{some_is, found_number}
 use Rattle.hx_course.proofs.TableLemmas.{none_in, one_in}
 use Rattle.hx_course.proofs.TruthLemmas.{passed_open, truth_on}

@@ -1,6 +1,6 @@
 -- The stop of a worker's session keeps what holds of a course.
-use Rattle.std.proofs.Common.{◌≡◌, ◌⊎◌, ⊎_elim, inl, inr, ℕ, Bool, true, false, List, [], ◌∷◌, ◌++◌, refl, sym, ap, ◌∙◌, subst, Option, Some, None, eq-eqb}
-use Rattle.std.specs.Prelude.{IfSome, Contains, if◌then◌else◌, ◌==◌}
+use Rattle.std.proofs.Common.{◌≡◌, ◌⊎◌, ⊎_elim, inl, inr, ℕ, Bool, true, List, [], ◌∷◌, ◌++◌, refl, sym, ap, ◌∙◌, subst, Option, Some, None, eq-eqb}
+use Rattle.std.specs.Prelude.{IfSome, Contains, if◌then◌else◌}
 use Rattle.std.proofs.lemmas.List.Elements.{Contains-append_cases, Contains-append_left, Contains-append_right, Contains-push}
 use Rattle.hx_base.specs.declared.numbers.ConnId.{ConnId}
 use Rattle.hx_base.specs.declared.numbers.ServerNo.{ServerNo}
@@ -19,11 +19,11 @@ use Rattle.hx_record.specs.declared.served.Told.{Told}
 use Rattle.hx_record.specs.declared.served.Left.{Left}
 use Rattle.hx_connecting.specs.Exchanges.{IsClosed, ExchangeGoes, PassedEnds}
 use Rattle.hx_connecting.specs.Links.{NoLinkGoes}
-use Rattle.hx_connecting.specs.Sessions.{SessionNow, Holding, Exchanging, is_first, around_with}
+use Rattle.hx_connecting.specs.Sessions.{SessionNow, Holding, is_first}
 use Rattle.hx_connecting.specs.Touches.{Came, Had, Went, Ends, Touch, HasMarks}
 use Rattle.hx_connecting.specs.Ways.{IsOwn, HasNoExchange}
 use Rattle.hx_session.specs.Doings.{Doing}
-use Rattle.hx_session.specs.Records.{ItsExchange, leaves_for}
+use Rattle.hx_session.specs.Records.{leaves_for}
 use Rattle.hx_session.specs.Stopping.{StopsConn, StopTouches, StopsKind, stopped_of}
 use Rattle.hx_session.specs.Telling.{KindTold, RecordsTold, stopped}
 use Rattle.hx_worker.specs.declared.answers.Stopped.{Stopped}

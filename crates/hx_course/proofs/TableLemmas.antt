@@ -1,5 +1,5 @@
 -- What a call's marks at a seat leave of each connection, where no other thread makes entries there.
-use Rattle.std.proofs.Common.{◌≡◌, ◌≢◌, ◌⊎◌, ⊎_elim, inl, inr, ℕ, ◌+◌, ◌<◌, Bool, true, false, cond, List, [], ◌∷◌, ◌++◌, length, refl, sym, ap, ◌∙◌, subst, arith, append_assoc, Option, Some, None}
+use Rattle.std.proofs.Common.{◌≡◌, ◌≢◌, ⊎_elim, ℕ, ◌<◌, Bool, true, false, cond, List, [], ◌∷◌, ◌++◌, refl, sym, ap, ◌∙◌, subst, arith, Option}
 use Rattle.std.specs.Prelude.{Contains, ⊤}
 use Rattle.std.proofs.lemmas.List.Elements.{Contains-append_cases, Contains-push_cases}
 use mathlib.Core.Logic.{dite}
@@ -13,12 +13,12 @@ use Rattle.hx_pool.specs.declared.entries.Entry.{Entry}
 use Rattle.hx_pool.specs.declared.entries.Entry.TheVariants.{Open, Park, Take, Free, Close, Look, Up, Down, Count, Gate, SetGate, Round}
 use Rattle.hx_pool.specs.declared.entries.Note.{Note}
 use Rattle.hx_pool.specs.Table.{Conn, put, Table, Unopened, HeldBy, IdleAt, Closed, Needs, after_entry, after, empty_table}
-use Rattle.hx_pool.specs.History.{is_mark, entries_of, marks_of, table_from, table_after, what_of, EachStep, MeetsNeeds, IsLegal}
+use Rattle.hx_pool.specs.History.{is_mark, marks_of, table_from, table_after, EachStep, MeetsNeeds, IsLegal}
 use Rattle.hx_pool.specs.SeatView.{About, History, Makes, AllBelow}
 use Rattle.hx_pool.proofs.Counting.{all_own, below-second}
 use Rattle.hx_pool.proofs.Histories.{table_from-append, EachStep-first, EachStep-second, marks_of-append}
 use Rattle.hx_pool.proofs.Holding.{gained}
-use Rattle.hx_pool.proofs.Tables.{put_same, put_other, Sound, sound_at, sound_after, sound_along, closed_along}
+use Rattle.hx_pool.proofs.Tables.{put_same, put_other, Sound, sound_after, sound_along, closed_along}
 
 -- ---- lists
 
@@ -114,7 +114,7 @@ pub first_mark : (es : List Note) (m : Entry) (ms : List Entry) → marks_of es 
 first_mark [] m ms e = cc
 first_mark (y ∷ ys) m ms e =
     let P : Bool → Type 0 = λ b. is_mark y.entry ≡ b → cond b (y.entry ∷ marks_of ys) (marks_of ys) ≡ m ∷ ms
-        → (before : List Note) × (x : Note) × (behind : List Note) × (y ∷ ys ≡ before ++ x ∷ behind) × (marks_of before ≡ []) × (x.entry ≡ m) × (marks_of behind ≡ ms) in
+    → (before : List Note) × (x : Note) × (behind : List Note) × (y ∷ ys ≡ before ++ x ∷ behind) × (marks_of before ≡ []) × (x.entry ≡ m) × (marks_of behind ≡ ms) in
     let go : (b : Bool) → P b = λ b. elim b as P [
       | true ↦ λ k q. ([], y, ys, refl, refl, cc, cc)
       | false ↦ λ k q.

@@ -1,20 +1,19 @@
 -- What was true stays true as links go on.
-use Rattle.std.proofs.Common.{◌≡◌, ◌⊎◌, ⊎_elim, inl, inr, ℕ, Bool, true, false, List, [], ◌∷◌, ◌++◌, length, refl, sym, ap, ◌∙◌, subst, append-nil, append_assoc, Option, Some, None, IsSome}
-use Rattle.std.specs.Prelude.{IfSome, Contains, ◌↔◌}
+use Rattle.std.proofs.Common.{◌≡◌, ⊎_elim, inl, inr, ℕ, Bool, true, false, List, [], ◌++◌, refl, sym, ap, ◌∙◌, subst, append-nil, append_assoc, Option, Some, None, IsSome}
+use Rattle.std.specs.Prelude.{IfSome, Contains}
 use Rattle.std.proofs.lemmas.List.Elements.{Contains-append_left}
 use Rattle.hx_base.specs.declared.what.LinkTold.{LinkTold}
 use Rattle.hx_base.specs.declared.what.What.{What}
 use Rattle.hx_base.specs.Spans.{bytes_in}
 use Rattle.hx_conn.specs.WhatTold.{what_of_link}
 use Rattle.hx_link.specs.Told.{LinkState}
-use Rattle.hx_message.specs.Message.{IsWholeAnswer, Persists}
+use Rattle.hx_message.specs.Message.{Persists}
 use Rattle.hx_pool.specs.SeatView.{History}
 use Rattle.hx_record.specs.Carriage.{Carriage}
 use Rattle.hx_record.specs.GoingOn.{GoesOn}
 use Rattle.hx_record.specs.Truth.{HasRanges, IsTruePassed, IsTrueCut, IsTrueOwn}
 use Rattle.hx_record.specs.declared.served.Carried.{Carried}
 use Rattle.hx_record.specs.declared.served.CutCause.{CutCause}
-use Rattle.hx_record.specs.declared.served.CutCause.TheVariants as cut
 use Rattle.hx_record.specs.declared.served.Kind.{Kind}
 use Rattle.hx_record.specs.declared.served.Kind.TheVariants as kind
 use Rattle.hx_record.specs.declared.served.LeftCause.{LeftCause}
@@ -26,7 +25,7 @@ use Rattle.hx_connecting.specs.Links.{IsSameLink, GrowsTold}
 use Rattle.hx_connecting.specs.Sessions.{SessionNow}
 use Rattle.hx_session.specs.Records.{carriage_of}
 use Rattle.hx_course.specs.Graves.{Grave, OfClient, OfConn, grave}
-use Rattle.hx_course.specs.Places.{ClientIs, ConnIs, IsInGrave, StandsBehind, ToldGrows, BytesGrow, LinksGoOn}
+use Rattle.hx_course.specs.Places.{ConnIs, IsInGrave, StandsBehind, ToldGrows, BytesGrow, LinksGoOn}
 use Rattle.hx_course.specs.Truths.{left_open, WhereBoth, IsTrueOpen, IsTrueEnded, PassedNow, CutNow, OwnNow, IsTrueNow, KeepsTruth}
 
 -- ---- bytes that grow

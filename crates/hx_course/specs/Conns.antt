@@ -1,5 +1,5 @@
 -- How far the exchanges that records tell reach in the bytes of each connection's link, over a whole course.
-use Rattle.std.specs.Prelude.{◌≡◌, ℕ, ◌≤◌, List, length, Contains, Option, Some, None, IfSome, IsSome, slice_get, ⊤}
+use Rattle.std.specs.Prelude.{◌≡◌, ℕ, List, length, Contains, Option, Some, IfSome, IsSome, slice_get}
 use Rattle.hx_base.specs.declared.numbers.ConnId.{ConnId}
 use Rattle.hx_base.specs.declared.numbers.ServerNo.{ServerNo}
 use Rattle.hx_base.specs.declared.what.What.{What}

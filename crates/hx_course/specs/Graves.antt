@@ -1,5 +1,5 @@
 -- The links that were buried in a course of a worker, and whose each of them was.
-use Rattle.std.specs.Prelude.{List, [], ◌∷◌, ◌++◌, map, Bool, true, false, Option, Some, None}
+use Rattle.std.specs.Prelude.{List, [], ◌∷◌, map, Bool, true, false, Option, Some, None}
 use Rattle.hx_base.specs.declared.numbers.ConnId.{ConnId}
 use Rattle.hx_base.specs.declared.numbers.ServerNo.{ServerNo}
 use Rattle.hx_base.specs.declared.numbers.SessionNo.{SessionNo}

@@ -12,3 +12,4 @@ pub mod Courses
 pub mod Sweeping
 pub mod Endings
 pub mod Conns
+pub mod Laws

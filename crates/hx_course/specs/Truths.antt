@@ -1,5 +1,5 @@
 -- That each record which was told in a course of a worker is true of what its links tell now, where they tell their bytes.
-use Rattle.std.specs.Prelude.{◌≡◌, ◌⊎◌, ℕ, true, false, List, Contains, Option, Some, None, IfSome}
+use Rattle.std.specs.Prelude.{◌≡◌, ◌⊎◌, ℕ, true, false, List, Contains, IfSome}
 use Rattle.hx_base.specs.declared.what.LinkTold.{LinkTold}
 use Rattle.hx_base.specs.declared.what.What.{What}
 use Rattle.hx_conn.specs.WhatTold.{what_of_link}

@@ -1,0 +1,11 @@
+use Rattle.hx_course.proofs.EndLemmas.{records_end, clients_end, conns_end}
+use Rattle.hx_course.proofs.courses_end_true.Goals as goal
+
+pub returns-clause-records : goal.returns-clause-records
+returns-clause-records c = records_end
+
+pub returns-clause-clients : goal.returns-clause-clients
+returns-clause-clients c = clients_end
+
+pub returns-clause-conns : goal.returns-clause-conns
+returns-clause-conns c = conns_end
