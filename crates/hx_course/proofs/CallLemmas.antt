@@ -1,5 +1,5 @@
 -- The other calls of a worker keep what holds of a course: admission, the caretaker's rounds and orders; and a course begins.
-use Rattle.std.proofs.Common.{◌≡◌, ◌⊎◌, ⊎_elim, inl, inr, ℕ, ◌+◌, List, [], ◌∷◌, ◌++◌, refl, sym, ap, ◌∙◌, subst, append-nil, Some, None}
+use Rattle.std.proofs.Common.{◌≡◌, ◌⊎◌, ⊎_elim, inl, inr, ℕ, ◌+◌, List, [], ◌∷◌, ◌++◌, refl, sym, ap, ◌∙◌, subst, append-nil, Some, None, arith}
 use Rattle.std.specs.Prelude.{Contains, slice_get}
 use Rattle.std.proofs.lemmas.List.Elements.{Contains-append_left, Contains-append_right, Contains-append_cases}
 use Rattle.hx_base.specs.declared.numbers.ConnId.{ConnId}
@@ -34,13 +34,15 @@ use Rattle.hx_course.specs.Calls.{AreAlone}
 use Rattle.hx_course.specs.Clients.{KeepsClients}
 use Rattle.hx_course.specs.Conns.{CoversHeld, HeldTells, KeepsConns}
 use Rattle.hx_course.specs.Courses.{KeepsCourse}
-use Rattle.hx_course.specs.Graves.{Grave, OfClient, OfConn, OfNobody, grave, AreBuried}
+use Rattle.hx_course.specs.Graves.{Grave, OfClient, OfConn, OfNobody, grave, AreBuried, TellsOwner}
+use Rattle.hx_course.specs.Owners.{AreInOrder, KeepsOwners}
 use Rattle.hx_course.specs.Places.{ClientIs, IsAtRest, IsInGrave, ConnIs, BytesGrow, LinksGoOn}
 use Rattle.hx_course.specs.Sweeping.{sweep_graves}
 use Rattle.hx_course.specs.Truths.{IsTrueNow, KeepsTruth}
-use Rattle.hx_course.proofs.CareLemmas.{CaredAt, ticks_cared, orders_cared, alone_cared, all_cared_links, sweep_no_client, rest_on, conns_care}
+use Rattle.hx_course.proofs.CareLemmas.{CaredAt, ticks_cared, orders_cared, alone_cared, all_cared_links, sweep_no_client, rest_on, conns_care, all_order_cared, sweep_clients, sweep_dials}
 use Rattle.hx_course.proofs.ClientLemmas.{clients_begin, clients_more, clients_admit}
 use Rattle.hx_course.proofs.Numbers.{session_old, session_more}
+use Rattle.hx_course.proofs.OwnerLemmas.{owners_more, owners_admit}
 use Rattle.hx_course.proofs.StepLemmas.{buried_more}
 use Rattle.hx_course.proofs.TableLemmas.{none_in, one_in}
 use Rattle.hx_course.proofs.TruthLemmas.{told_same, truth_on}
@@ -53,8 +55,8 @@ truth_same ss ss' seats seats' graves graves' records go k r c =
 
 -- ---- a course begins
 
-pub course_begin : (t : ThreadNo) (config : Meaning) (seats : List History) (journals : List JournalRoom) (net : NetState) → AreAlone seats → ((i : ℕ) (h : History) → slice_get seats i ≡ Some h → h.seen ≡ []) → AreBuried [] net → KeepsCourse (new_worker t config seats journals) net [] []
-course_begin t config seats journals net alone unused none = record {
+pub course_begin : (t : ThreadNo) (config : Meaning) (seats : List History) (journals : List JournalRoom) (net : NetState) → AreAlone seats → AreInOrder seats → ((i : ℕ) (h : History) → slice_get seats i ≡ Some h → h.seen ≡ []) → AreBuried [] net → KeepsCourse (new_worker t config seats journals) net [] []
+course_begin t config seats journals net alone order unused none = record {
   alone = alone;
   buried = none;
   clients = clients_begin t;
@@ -65,6 +67,7 @@ course_begin t config seats journals net alone unused none = record {
     fresh = λ server id h at none. conn_none server id;
     buried = λ server id l c. absurd (none_in (grave (OfConn server id) l) c);
   };
+  owners = record { rise = omega arith; its = λ n s e. cc; order = order; clients = λ n s e. cc; dials = λ g c. absurd (none_in g c); lefts = refl };
 }
   where
     nothing : (server : ServerNo) (id : ConnId) (v : What) → IsAtRest seats server id v → ⊥
@@ -73,7 +76,7 @@ course_begin t config seats journals net alone unused none = record {
 
 -- ---- a client comes
 
-module _ (w w' : WorkerNow) (net net' : NetState) (client : LinkState) (front : ℕ) (now : Millis) (n : SessionNo) (k : Admits w w' client front now n) (same : net'.buried ≡ net.buried)
+module _ (w w' : WorkerNow) (net net' : NetState) (client : LinkState) (front : ℕ) (now : Millis) (n : SessionNo) (k : Admits w w' client front now n) (same : net'.buried ≡ net.buried) (dial : client.dial ≡ None)
     (records : List Told) (graves : List Grave) (keeps : KeepsCourse w net records graves) where
   abbrev s : SessionNow
   s = admitted w.thread n front now.0 client
@@ -110,6 +113,7 @@ module _ (w w' : WorkerNow) (net net' : NetState) (client : LinkState) (front : 
     clients = clients_admit w.thread w.last w.sessions records graves n front now.0 client k.number keeps.clients;
     truth = truth_same w.sessions ss w.seats w.seats graves graves records links_admit keeps.truth;
     conns = record { held = held_on; rests = keeps.conns.rests; fresh = keeps.conns.fresh; buried = keeps.conns.buried };
+    owners = owners_admit w.thread w.last w.sessions w.seats records graves n front now.0 client k.number dial keeps.owners;
   })
     where
       links : List Grave → List LinkState
@@ -139,9 +143,9 @@ module _ (w : WorkerNow) (seats' : List History) (graves more : List Grave)
   links_care = record { clients = client_stays; conns = conn_stays; stay = old_grave }
 
 -- a client that wasn't admitted is buried
-pub course_turned : (w : WorkerNow) (net net' : NetState) (client : LinkState) (records : List Told) (graves : List Grave) → GainsAll (client ∷ []) net.buried net'.buried
+pub course_turned : (w : WorkerNow) (net net' : NetState) (client : LinkState) (records : List Told) (graves : List Grave) → client.dial ≡ None → GainsAll (client ∷ []) net.buried net'.buried
     → KeepsCourse w net records graves → KeepsCourse w net' records (graves ++ grave OfNobody client ∷ [])
-course_turned w net net' client records graves gains k =
+course_turned w net net' client records graves dial gains k =
     let more = grave OfNobody client ∷ [] in record {
       alone = k.alone;
       buried = buried_more graves more (client ∷ []) net net' refl k.buried gains;
@@ -156,6 +160,8 @@ course_turned w net net' client records graves gains k =
             (λ (h : Contains more (grave (OfConn server id) l)). absurd (no_conn server id (ap (λ (g : Grave). g.owner) (one_in (grave OfNobody client) (grave (OfConn server id) l) h))))
             (Contains-append_cases graves more (grave (OfConn server id) l) c);
       };
+      owners = owners_more w.thread w.last w.sessions w.seats w.seats records graves more refl
+          (λ g c. subst (λ (z : Grave). TellsOwner z.owner z.link) (one_in (grave OfNobody client) g c) dial) k.owners.order k.owners;
     }
   where
     no_conn : (server : ServerNo) (id : ConnId) → OfNobody ≡ OfConn server id → ⊥
@@ -175,6 +181,9 @@ module _ (P : ℕ → History → History → Sweep → Type 0) (cared : (i : �
   pub links_cared : LinksGoOn w.sessions w.sessions w.seats w'.seats graves (graves ++ more)
   links_cared = links_care w w'.seats graves more (λ server id v r. rest_on P w.seats w'.seats sweeps cared k.cares.each keeps.alone server id v r)
 
+  order_on : AreInOrder w'.seats
+  order_on = all_order_cared P w.seats w'.seats sweeps cared k.cares.each keeps.owners.order
+
   pub course_cares : KeepsCourse w' net' records (graves ++ more)
   course_cares = record {
     alone = alone_cared P 0 w.seats w'.seats sweeps cared k.cares.each keeps.alone;
@@ -187,6 +196,10 @@ module _ (P : ℕ → History → History → Sweep → Type 0) (cared : (i : �
         (truth_same w.sessions w.sessions w.seats w'.seats graves (graves ++ more) records links_cared keeps.truth);
     conns = subst (λ (ss : List SessionNow). KeepsConns ss w'.seats records (graves ++ more)) (sym k.sessions)
         (conns_care P cared w.seats w'.seats sweeps k.cares.each keeps.alone w.sessions records graves keeps.conns);
+    owners = subst (λ (th : ThreadNo). KeepsOwners th w'.last w'.sessions w'.seats records (graves ++ more)) (sym k.stays.thread)
+        (subst (λ (m : ℕ). KeepsOwners w.thread m w'.sessions w'.seats records (graves ++ more)) (sym k.stays.last)
+        (subst (λ (ss : List SessionNow). KeepsOwners w.thread w.last ss w'.seats records (graves ++ more)) (sym k.sessions)
+        (owners_more w.thread w.last w.sessions w.seats w'.seats records graves more (sweep_clients 0 sweeps) (sweep_dials P w.seats w'.seats sweeps cared k.cares.each order_on) order_on keeps.owners)));
   }
 
 -- a round of the caretaker, and an order

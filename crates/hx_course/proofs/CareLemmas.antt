@@ -1,6 +1,7 @@
 -- What the caretaker closes at the seats: each link that rested so is buried as it rested, and every other is where it was.
 use Rattle.std.proofs.Common.{◌≡◌, ◌⊎◌, ⊎_elim, inl, inr, ℕ, zero, suc, ◌+◌, Bool, true, false, cond, List, [], ◌∷◌, ◌++◌, refl, sym, ap, ◌∙◌, subst, arith, length, Option, Some, IsSome}
 use Rattle.std.specs.Prelude.{IfSome, Contains, slice_get, ⊤}
+use Rattle.std.proofs.lemmas.Grind.{flat_map-append}
 use Rattle.std.proofs.lemmas.List.Elements.{Contains-append_left, Contains-append_right, Contains-append_cases, Contains-push}
 use mathlib.Core.Logic.{dite}
 use native.Mathlib.Decide.{ℕ_discrete}
@@ -14,6 +15,7 @@ use Rattle.hx_base.specs.declared.order.Order.{Order}
 use Rattle.hx_base.specs.declared.order.Order.TheVariants.{Drain, Ready}
 use Rattle.hx_base.specs.declared.what.What.{What}
 use Rattle.hx_conn.specs.WhatTold.{what_of_link}
+use Rattle.hx_link.specs.Nets.{TellsDial}
 use Rattle.hx_link.specs.Told.{LinkState}
 use Rattle.hx_pool.specs.declared.entries.Entry.{Entry}
 use Rattle.hx_pool.specs.declared.entries.Entry.TheVariants.{Open, Park, Take, Free, Close, Look, Up, Down, Count, Gate, SetGate, Round}
@@ -37,7 +39,9 @@ use Rattle.hx_caretaker.specs.Rounds.{PurgesSince, Ticks, TicksAt}
 use Rattle.hx_caretaker.specs.Sweeps.{Swept, Sweep, swept_marks, sweep_marks, ClosesThem, IsItsLink, AreTheirLinks, no_sweep}
 use Rattle.hx_course.specs.Calls.{AreAlone}
 use Rattle.hx_course.specs.Conns.{CoversSome, IsOver, KeepsConns}
-use Rattle.hx_course.specs.Graves.{Grave, OfClient, OfConn, grave, links_of}
+use Rattle.hx_course.specs.Owners.{AreInOrder}
+use Rattle.hx_course.proofs.GoingLemmas.{server_is}
+use Rattle.hx_course.specs.Graves.{client_of, clients_of, TellsOwner, Grave, OfClient, OfConn, grave, links_of}
 use Rattle.hx_course.specs.Places.{IsAtRest, IsInGrave}
 use Rattle.hx_course.specs.Sweeping.{server_no, swept_graves, sweep_graves}
 use Rattle.hx_course.proofs.ConnLines.{is_some}
@@ -712,3 +716,58 @@ module _ (P : ℕ → History → History → Sweep → Type 0) (cared : (k : �
 
   pub conns_care : KeepsConns ss new records (graves ++ sweep_graves 0 sweeps)
   conns_care = record { held = keeps.held; rests = rests_care; fresh = fresh_care; buried = buried_care }
+
+-- ---- whose the links are
+
+order_cared : (P : ℕ → History → History → Sweep → Type 0) (i j : ℕ) (old new : List History) (sweeps : List Sweep) → ((k : ℕ) (f h : History) (x : Sweep) → P k f h x → CaredAt f h x)
+    → EachSweep P i old new sweeps → ((k : ℕ) (h : History) → slice_get old k ≡ Some h → h.about.server.0 ≡ j + k) → (k : ℕ) (h : History) → slice_get new k ≡ Some h → h.about.server.0 ≡ j + k
+order_cared P i j [] [] [] cared a order k h e = cc
+order_cared P i j [] [] (x ∷ sweeps) cared a order k h e = absurd a
+order_cared P i j [] (f ∷ new) sweeps cared a order k h e = absurd a
+order_cared P i j (f ∷ old) [] sweeps cared a order k h e = absurd a
+order_cared P i j (f ∷ old) (g ∷ new) [] cared a order k h e = absurd a
+order_cared P i j (f ∷ old) (g ∷ new) (x ∷ sweeps) cared a order zero h e =
+    let is : g ≡ h = cc in
+    ap (λ (z : History). z.about.server.0) (sym is) ∙ (ap (λ (b : About). b.server.0) (about_cared f g x (cared i f g x a.0)) ∙ order 0 f refl)
+order_cared P i j (f ∷ old) (g ∷ new) (x ∷ sweeps) cared a order (suc k) h e =
+    order_cared P (i + 1) (j + 1) old new sweeps cared a.1 (λ m z q. order (suc m) z q ∙ omega arith) k h e ∙ omega arith
+
+pub all_order_cared : (P : ℕ → History → History → Sweep → Type 0) (old new : List History) (sweeps : List Sweep) → ((k : ℕ) (f h : History) (x : Sweep) → P k f h x → CaredAt f h x)
+    → EachSweep P 0 old new sweeps → AreInOrder old → AreInOrder new
+all_order_cared P old new sweeps cared a order k h e = order_cared P 0 0 old new sweeps cared a (λ m g f. order m g f ∙ omega arith) k h e ∙ omega arith
+
+swept_clients : (server : ServerNo) (swept : List Swept) (links : List LinkState) → clients_of (swept_graves server swept links) ≡ []
+swept_clients server [] [] = refl
+swept_clients server [] (l ∷ links) = refl
+swept_clients server (x ∷ swept) [] = refl
+swept_clients server (x ∷ swept) (l ∷ links) = swept_clients server swept links
+
+pub sweep_clients : (i : ℕ) (sweeps : List Sweep) → clients_of (sweep_graves i sweeps) ≡ []
+sweep_clients i [] = refl
+sweep_clients i (x ∷ sweeps) =
+    flat_map-append (λ (g : Grave). client_of g.owner) (swept_graves (server_no i) x.swept x.links) (sweep_graves (i + 1) sweeps)
+    ∙ (ap (λ xs. xs ++ clients_of (sweep_graves (i + 1) sweeps)) (swept_clients (server_no i) x.swept x.links) ∙ sweep_clients (i + 1) sweeps)
+
+swept_dials : (new : History) (server : ServerNo) (swept : List Swept) (links : List LinkState) → new.about.server ≡ server → AreTheirLinks new swept links → (g : Grave)
+    → Contains (swept_graves server swept links) g → TellsOwner g.owner g.link
+swept_dials new server [] [] e a g c = absurd (none_in g c)
+swept_dials new server [] (l ∷ links) e a g c = absurd (none_in g c)
+swept_dials new server (x ∷ swept) [] e a g c = absurd (none_in g c)
+swept_dials new server (x ∷ swept) (l ∷ links) e a g c = ⊎_elim
+    (λ (h : Contains (grave (OfConn server x.face.id) l ∷ []) g).
+    subst (λ (z : Grave). TellsOwner z.owner z.link) (one_in (grave (OfConn server x.face.id) l) g h) (subst (λ (n : ServerNo). TellsDial n x.face.id l) e a.0.dial))
+    (λ (h : Contains (swept_graves server swept links) g). swept_dials new server swept links e a.1 g h)
+    (Contains-append_cases (grave (OfConn server x.face.id) l ∷ []) (swept_graves server swept links) g c)
+
+pub sweep_dials : (P : ℕ → History → History → Sweep → Type 0) (old new : List History) (sweeps : List Sweep) → ((k : ℕ) (f h : History) (x : Sweep) → P k f h x → CaredAt f h x)
+    → EachSweep P 0 old new sweeps → AreInOrder new → (g : Grave) → Contains (sweep_graves 0 sweeps) g → TellsOwner g.owner g.link
+sweep_dials P old new sweeps cared each order g c =
+    let h = sweep_has 0 sweeps g c in
+    let x = h.1 in
+    let b = seat_of P 0 old new sweeps h.0 x each h.2 in
+    ⊎_elim
+    (λ (q : (b.after ≡ b.before) × (x ≡ no_sweep)). absurd (none_in g (subst (λ (z : Sweep). Contains (swept_graves (server_no (0 + h.0)) z.swept z.links) g) q.1 h.3)))
+    (λ (s : IsSwept b.before b.after x).
+    let at : b.after.about.server.0 ≡ 0 + h.0 = order h.0 b.after b.at_new ∙ sym (from_zero h.0) in
+    swept_dials b.after (server_no (0 + h.0)) x.swept x.links (server_is b.after.about.server (server_no (0 + h.0)) at) s.links g h.3)
+    (cared (0 + h.0) b.before b.after x b.does)

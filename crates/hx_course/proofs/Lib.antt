@@ -6,6 +6,7 @@ pub mod ClientLemmas
 pub mod TruthLemmas
 pub mod GoingLemmas
 pub mod ConnLemmas
+pub mod OwnerLemmas
 pub mod StepLemmas
 pub mod StopLemmas
 pub mod CareLemmas

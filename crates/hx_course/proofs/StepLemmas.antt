@@ -1,5 +1,5 @@
 -- A worker's step keeps what holds of a course.
-use Rattle.std.proofs.Common.{◌≡◌, ◌⊎◌, ⊎_elim, inl, inr, ℕ, zero, suc, ◌+◌, Bool, true, false, List, [], ◌∷◌, ◌++◌, refl, sym, ap, ◌∙◌, subst, Option, Some, None}
+use Rattle.std.proofs.Common.{◌≡◌, ◌⊎◌, ⊎_elim, inl, inr, ℕ, zero, suc, ◌+◌, Bool, true, false, List, [], ◌∷◌, ◌++◌, refl, sym, ap, ◌∙◌, subst, Option, Some, None, arith}
 use Rattle.std.specs.Prelude.{IfSome, Contains, option_map}
 use Rattle.std.proofs.lemmas.List.Elements.{Contains-append_cases, Contains-append_left, Contains-append_right, Contains-push}
 use Rattle.hx_base.specs.Spans.{bytes_in}
@@ -11,7 +11,7 @@ use Rattle.hx_base.specs.declared.what.LinkTold.{LinkTold}
 use Rattle.hx_base.specs.declared.what.What.{What}
 use Rattle.hx_conn.specs.Conns.{BusyNow}
 use Rattle.hx_conn.specs.WhatTold.{what_of_link}
-use Rattle.hx_link.specs.Nets.{NetState}
+use Rattle.hx_link.specs.Nets.{NetState, TellsDial}
 use Rattle.hx_link.specs.Told.{LinkState}
 use Rattle.hx_message.specs.Message.{Persists}
 use Rattle.hx_pool.specs.SeatView.{About, History}
@@ -25,7 +25,7 @@ use Rattle.hx_record.specs.declared.served.Served.{Served}
 use Rattle.hx_record.specs.declared.served.Told.{Told}
 use Rattle.hx_record.specs.declared.served.Told.TheVariants as line
 use Rattle.hx_connecting.specs.Exchanges.{EndsWith, ExchangeGoes, PassedEnds}
-use Rattle.hx_connecting.specs.Links.{GainsAll, NoLinkGoes}
+use Rattle.hx_connecting.specs.Links.{GainsAll, NoLinkGoes, IsBuried, TellsAfter}
 use Rattle.hx_connecting.specs.Sessions.{SessionNow, is_first}
 use Rattle.hx_connecting.specs.Touches.{Went, Stays, Rests, Ends, EndsTakenBack, Touch, AddsEach, HasMarks}
 use Rattle.hx_connecting.specs.Ways.{IsOwn}
@@ -36,20 +36,21 @@ use Rattle.hx_session.specs.declared.step.Step.{Step}
 use Rattle.hx_worker.specs.Headline.{doing_of}
 use Rattle.hx_session.specs.Telling.{RecordsTold}
 use Rattle.hx_worker.specs.Steps.{Steps, gone_of, buried_with, placed}
-use Rattle.hx_worker.specs.Workers.{WorkerNow, HasSeats, HasSessions, IsOurs, session_of}
-use Rattle.hx_worker.proofs.ByNumber.{each_found}
+use Rattle.hx_worker.specs.Workers.{WorkerNow, HasSeats, session_of}
 use Rattle.hx_course.specs.Calls.{AreAlone, HadFor, TookLast, TouchGoes, EndsExchange, IsOfMethod, step_touched, step_graves, StepTook, StepGoesOn}
 use Rattle.hx_course.specs.Clients.{KeepsClients}
 use Rattle.hx_course.specs.Conns.{KeepsConns}
 use Rattle.hx_course.specs.Courses.{KeepsCourse}
-use Rattle.hx_course.specs.Graves.{Grave, OfClient, OfConn, grave, links_of, AreBuried, conn_graves, client_graves}
+use Rattle.hx_course.specs.Graves.{Grave, OfClient, OfConn, grave, links_of, AreBuried, conn_graves, client_graves, clients_of, TellsOwner}
 use Rattle.hx_course.specs.Lines.{served_line, left_line, lines_of}
+use Rattle.hx_course.specs.Owners.{AreInOrder, KeepsOwners}
 use Rattle.hx_course.specs.Places.{LinksGoOn}
 use Rattle.hx_course.specs.Truths.{IsTrueOpen, IsTrueNow, KeepsTruth}
 use Rattle.hx_course.proofs.ClientLemmas.{clients_go, not_conn}
 use Rattle.hx_course.proofs.ConnLemmas.{its_record, held_in, conns_go}
 use Rattle.hx_course.proofs.GoingLemmas.{links_on, record_now}
 use Rattle.hx_course.proofs.Numbers.{some_is, found_number}
+use Rattle.hx_course.proofs.OwnerLemmas.{conn_clients, conn_dials, order_after, owners_go}
 use Rattle.hx_course.proofs.TableLemmas.{none_in, one_in}
 use Rattle.hx_course.proofs.TruthLemmas.{passed_open, truth_on}
 
@@ -220,7 +221,30 @@ all_told ss seats records graves served left old new r c = ⊎_elim
     no_left None q = none_in (line.Served r) q
     no_left (Some l) q = let e : line.Left l ≡ line.Served r = one_in (line.Left l) (line.Served r) q in cc
 
-module _ (w w' : WorkerNow) (net net' : NetState) (n : SessionNo) (r : Step) (k : Steps w w' net net' n r) (records : List Told) (graves : List Grave) (has : HasSessions w) (seats : HasSeats w)
+buried_dial : (y : Touch) (gone : Option LinkState) (after : Option What) (l : LinkState) → IsBuried y gone after → gone ≡ Some l → TellsDial y.server y.id l
+buried_dial y None after l b e = cc
+buried_dial y (Some j) after l b e = subst (λ (z : LinkState). TellsDial y.server y.id z) (some_is j l e) b.0
+
+-- the buried link of a closed connection tells its dial
+pub dial_of : (a : SessionNow) (es : List Note) (y : Touch) (w : Went) (gone : Option LinkState) (after : Option What) (l : LinkState) → TellsAfter a es y w gone after → gone ≡ Some l → TellsDial y.server y.id l
+dial_of a es y Stays link after l t e = let other = sym e ∙ t.0 in cc
+dial_of a es y (Rests place uses) link after l t e = let other = sym e ∙ t.0 in cc
+dial_of a es y Ends link after l t e = buried_dial y link after l t.1 e
+dial_of a es y (EndsTakenBack place uses) link after l t e = buried_dial y link after l t.1 e
+
+step_dials : (d : Doing) (x : Option Touch) (t : Touches d x) (g : Grave) → Contains (step_touched d x t) g → TellsOwner g.owner g.link
+step_dials d None t g c = absurd (none_in g c)
+step_dials d (Some z) t g c = conn_dials z.server z.id t.goes.gone (λ l e. dial_of d.new t.at.es z z.went t.goes.gone t.goes.after l t.goes.is e) g c
+
+step_clients : (d : Doing) (x : Option Touch) (t : Touches d x) → clients_of (step_touched d x t) ≡ []
+step_clients d None t = refl
+step_clients d (Some z) t = conn_clients z.server z.id t.goes.gone
+
+-- seats in their order stay so
+pub in_order : (P : ℕ → List Note → Type 0) (old new : List History) (added : List (List Note)) → AddsEach P 0 old new added → AreInOrder old → AreInOrder new
+in_order P old new added a order k h e = order_after P 0 0 old new added a (λ m g f. order m g f ∙ omega arith) k h e ∙ omega arith
+
+module _ (w w' : WorkerNow) (net net' : NetState) (n : SessionNo) (r : Step) (k : Steps w w' net net' n r) (records : List Told) (graves : List Grave) (seats : HasSeats w)
     (goes : StepGoesOn w w' net net' n r k) (keeps : KeepsCourse w net records graves) where
   abbrev s : SessionNow
   s = k.session
@@ -250,7 +274,7 @@ module _ (w w' : WorkerNow) (net net' : NetState) (n : SessionNo) (r : Step) (k 
   there = ap (session_of w.sessions) (found_number w.sessions n.0 s k.there) ∙ k.there
 
   its : s.worker ≡ w.thread
-  its = (each_found (IsOurs w.thread w.config) w.sessions n.0 s k.there has.ours).1.its
+  its = keeps.owners.its s.number.0 s there
 
   touched : (y : Touch) → x ≡ Some y → Touched d closed (after_of d x t) (gone_of d x t) y
   touched y e = touched_some d x t goes.took y e
@@ -276,7 +300,7 @@ module _ (w w' : WorkerNow) (net net' : NetState) (n : SessionNo) (r : Step) (k 
 
   -- each link goes on
   pub links_step : LinksGoOn w.sessions (placed w.sessions a) w.seats w'.seats graves (graves ++ more)
-  links_step = links_on w.sessions w.last s a w.seats w'.seats d.added (is_first s) net k.mid x graves (graves ++ more) has.rise there k.step.same.worker k.step.same.number empty
+  links_step = links_on w.sessions w.last s a w.seats w'.seats d.added (is_first s) net k.mid x graves (graves ++ more) keeps.owners.rise there k.step.same.worker k.step.same.number empty
       k.step.links.touches.adds keeps.alone goes.client old_grave client_grave (touched_none d x t) some_touch
 
   new_record : (v : Served) → r.served ≡ Some v → IsTrueNow (placed w.sessions a) w'.seats (records ++ lines) (graves ++ more) v v.kind
@@ -284,7 +308,7 @@ module _ (w w' : WorkerNow) (net net' : NetState) (n : SessionNo) (r : Step) (k 
   new_record v e =
       let told : RecordsTold s a (after_of d x t) r.left (Some v) = subst (λ (o : Option Served). RecordsTold s a (after_of d x t) r.left o) e k.step.links.records in
       subst (λ (o : Option Served). IsTrueNow (placed w.sessions a) w'.seats (records ++ lines_of o r.left) (graves ++ more) v v.kind) (sym e)
-      (record_now w.sessions w.last s a w.seats w'.seats d.added (is_first s) net k.mid x graves (graves ++ more) has.rise there k.step.same.worker k.step.same.number empty
+      (record_now w.sessions w.last s a w.seats w'.seats d.added (is_first s) net k.mid x graves (graves ++ more) keeps.owners.rise there k.step.same.worker k.step.same.number empty
       k.step.links.touches.adds keeps.alone goes.client old_grave client_grave (touched_none d x t) some_touch
       records (after_of d x t) r.left v told k.step.tells.leaves (own_none d x t v e) (λ y f. (touched y f).2)
       (ends_some d x t v e (subst (λ (o : Option Served). IfSome o (λ q. IsOfMethod s a.client (after_of d x t) q q.kind)) e goes.method)))
@@ -294,7 +318,7 @@ module _ (w w' : WorkerNow) (net net' : NetState) (n : SessionNo) (r : Step) (k 
       (truth_on w.sessions (placed w.sessions a) w.seats w'.seats graves (graves ++ more) links_step records lines keeps.truth) new_record
 
   clients_step : KeepsClients w.thread w.last (placed w.sessions a) (records ++ lines) (graves ++ more)
-  clients_step = clients_go w.thread w.last w.sessions s a (after_of d x t) r.served r.left records graves closed (step_no_client d x t) has.rise its there k.step.same.worker k.step.same.number
+  clients_step = clients_go w.thread w.last w.sessions s a (after_of d x t) r.served r.left records graves closed (step_no_client d x t) keeps.owners.rise its there k.step.same.worker k.step.same.number
       k.step.links.records k.step.tells.leaves goes.rises keeps.clients
 
   new_grave : (server : ServerNo) (id : ConnId) (l : LinkState) → Contains (graves ++ more) (grave (OfConn server id) l)
@@ -310,7 +334,7 @@ module _ (w w' : WorkerNow) (net net' : NetState) (n : SessionNo) (r : Step) (k 
       (Contains-append_cases graves (closed ++ client_graves a.over a) g c)
 
   conns_step : KeepsConns (placed w.sessions a) w'.seats (records ++ lines) (graves ++ more)
-  conns_step = conns_go w.sessions w.last s a w.seats w'.seats d.added (is_first s) net k.mid x graves (graves ++ more) records r.served r.left has.rise there k.step.same.worker k.step.same.number empty
+  conns_step = conns_go w.sessions w.last s a w.seats w'.seats d.added (is_first s) net k.mid x graves (graves ++ more) records r.served r.left keeps.owners.rise there k.step.same.worker k.step.same.number empty
       k.step.links.touches.adds keeps.alone (its_record s a (after_of d x t) r.left r.served k.step.links.records) (own_all d x t) (touched_none d x t) (λ y e. (touched y e).0)
       (λ y e. (touched y e).4) (λ y e. (touched y e).5) goes.conn goes.rises.record_rises new_grave (held_in w.seats w.sessions seats.owns seats.one) keeps.conns
 
@@ -323,4 +347,10 @@ module _ (w w' : WorkerNow) (net net' : NetState) (n : SessionNo) (r : Step) (k 
         (subst (λ (ss : List SessionNow). KeepsClients w.thread w.last ss (records ++ lines) (graves ++ more)) (sym k.sessions) clients_step));
     truth = subst (λ (ss : List SessionNow). KeepsTruth ss w'.seats (records ++ lines) (graves ++ more)) (sym k.sessions) truth_step;
     conns = subst (λ (ss : List SessionNow). KeepsConns ss w'.seats (records ++ lines) (graves ++ more)) (sym k.sessions) conns_step;
+    owners = subst (λ (th : ThreadNo). KeepsOwners th w'.last w'.sessions w'.seats (records ++ lines) (graves ++ more)) (sym k.stays.thread)
+        (subst (λ (m : ℕ). KeepsOwners w.thread m w'.sessions w'.seats (records ++ lines) (graves ++ more)) (sym k.stays.last)
+        (subst (λ (ss : List SessionNow). KeepsOwners w.thread w.last ss w'.seats (records ++ lines) (graves ++ more)) (sym k.sessions)
+        (owners_go w.thread w.last w.sessions s a w.seats w'.seats r.served r.left records graves closed there k.step.same.worker k.step.same.number goes.dial k.step.tells.leaves
+        (step_clients d x t) (step_dials d x t)
+        (in_order (HasMarks s.worker s.number (is_first s) x) w.seats w'.seats d.added k.step.links.touches.adds keeps.owners.order) keeps.owners)));
   }

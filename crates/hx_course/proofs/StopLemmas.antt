@@ -29,21 +29,23 @@ use Rattle.hx_session.specs.Telling.{KindTold, RecordsTold, stopped}
 use Rattle.hx_worker.specs.declared.answers.Stopped.{Stopped}
 use Rattle.hx_worker.specs.Steps.{buried_with, placed}
 use Rattle.hx_worker.specs.Stops.{StopsOne, stop_gone_of}
-use Rattle.hx_worker.specs.Workers.{WorkerNow, HasSeats, HasSessions, IsOurs, session_of}
-use Rattle.hx_worker.proofs.ByNumber.{each_found, session_here}
+use Rattle.hx_worker.specs.Workers.{WorkerNow, HasSeats, session_of}
+use Rattle.hx_worker.proofs.ByNumber.{session_here}
 use Rattle.hx_course.specs.Calls.{HadFor, TookLast, TouchGoes, EndsExchange, stop_touched, stopping_of, stop_graves}
 use Rattle.hx_course.specs.Clients.{KeepsClients}
 use Rattle.hx_course.specs.Conns.{KeepsConns, ConnGoesOn}
 use Rattle.hx_course.specs.Courses.{KeepsCourse}
-use Rattle.hx_course.specs.Graves.{Grave, OfClient, OfConn, grave, links_of, conn_graves, client_graves}
+use Rattle.hx_course.specs.Graves.{Grave, OfClient, OfConn, grave, links_of, conn_graves, client_graves, clients_of, TellsOwner}
 use Rattle.hx_course.specs.Lines.{lines_of, TellsRising}
+use Rattle.hx_course.specs.Owners.{KeepsOwners}
 use Rattle.hx_course.specs.Places.{ToldGrows, BytesGrow, LinksGoOn}
 use Rattle.hx_course.specs.Truths.{IsTrueNow, KeepsTruth}
 use Rattle.hx_course.proofs.ClientLemmas.{clients_go, not_conn}
 use Rattle.hx_course.proofs.ConnLemmas.{its_record, held_in, conns_go}
 use Rattle.hx_course.proofs.GoingLemmas.{links_on, record_now}
 use Rattle.hx_course.proofs.Numbers.{some_is}
-use Rattle.hx_course.proofs.StepLemmas.{conn_grave_is, no_conn_grave, conn_links, buried_more, alone_after, all_told}
+use Rattle.hx_course.proofs.OwnerLemmas.{conn_clients, conn_dials, owners_go}
+use Rattle.hx_course.proofs.StepLemmas.{dial_of, in_order, conn_grave_is, no_conn_grave, conn_links, buried_more, alone_after, all_told}
 use Rattle.hx_course.proofs.TableLemmas.{none_in}
 use Rattle.hx_course.proofs.TruthLemmas.{told_same, truth_on}
 
@@ -172,7 +174,15 @@ own_stop : (s a : SessionNow) (conn : Option What) (left : Option Left) (served 
 own_stop s a conn left None e t = tt
 own_stop s a conn left (Some r) e t = own_kind s a conn (leaves_for left) r r.kind e t.kind
 
-module _ (w w' : WorkerNow) (net net' : NetState) (x : Stopped) (k : StopsOne w w' net net' x) (records : List Told) (graves : List Grave) (has : HasSessions w) (seats : HasSeats w)
+stop_dials : (d : Doing) (x : Option Touch) (t : StopTouches d x) (g : Grave) → Contains (stop_touched d x t) g → TellsOwner g.owner g.link
+stop_dials d None t g c = absurd (none_in g c)
+stop_dials d (Some z) t g c = conn_dials z.server z.id t.goes.gone (λ l e. dial_of d.new t.at.es z z.went t.goes.gone t.goes.after l t.goes.is e) g c
+
+stop_clients : (d : Doing) (x : Option Touch) (t : StopTouches d x) → clients_of (stop_touched d x t) ≡ []
+stop_clients d None t = refl
+stop_clients d (Some z) t = conn_clients z.server z.id t.goes.gone
+
+module _ (w w' : WorkerNow) (net net' : NetState) (x : Stopped) (k : StopsOne w w' net net' x) (records : List Told) (graves : List Grave) (seats : HasSeats w)
     (rises : TellsRising x.served (Some x.left)) (keeps : KeepsCourse w net records graves) where
   abbrev s : SessionNow
   s = k.session
@@ -211,7 +221,7 @@ module _ (w w' : WorkerNow) (net net' : NetState) (x : Stopped) (k : StopsOne w 
   first = ap (λ ss. session_of ss s.number.0) k.least ∙ session_here s k.others s.number.0 refl
 
   its : s.worker ≡ w.thread
-  its = (each_found (IsOurs w.thread w.config) w.sessions s.number.0 s first has.ours).1.its
+  its = keeps.owners.its s.number.0 s first
 
   gone : placed w.sessions a ≡ w'.sessions
   gone = ap (λ ss. placed ss a) k.least ∙ (placed_over s a k.others number over ∙ sym k.sessions)
@@ -245,7 +255,7 @@ module _ (w w' : WorkerNow) (net net' : NetState) (x : Stopped) (k : StopsOne w 
       subst (λ (o : Option LinkTold). ToldGrows (what_of_link s.client).told o) same (told_same (what_of_link s.client).told)
 
   pub links_stop : LinksGoOn w.sessions (placed w.sessions a) w.seats w'.seats graves (graves ++ more)
-  links_stop = links_on w.sessions w.last s a w.seats w'.seats d.added (is_first s) net k.mid z graves (graves ++ more) has.rise first worker number empty
+  links_stop = links_on w.sessions w.last s a w.seats w'.seats d.added (is_first s) net k.mid z graves (graves ++ more) keeps.owners.rise first worker number empty
       (k.stop.links w.turns).adds keeps.alone client old_grave client_grave (touched_none d z t) some_touch
 
   new_record : (v : Served) → x.served ≡ Some v → IsTrueNow (placed w.sessions a) w'.seats (records ++ lines) (graves ++ more) v v.kind
@@ -254,7 +264,7 @@ module _ (w w' : WorkerNow) (net net' : NetState) (x : Stopped) (k : StopsOne w 
       let told : RecordsTold s a (stopped_of d z t) (Some x.left) (Some v) = subst (λ (o : Option Served). RecordsTold s a (stopped_of d z t) (Some x.left) o) e (k.stop.links w.turns).records in
       let kinds : StopsKind s v.kind = subst (λ (o : Option Served). IfSome o (λ q. StopsKind s q.kind)) e k.stop.tells.kind in
       subst (λ (o : Option Served). IsTrueNow (placed w.sessions a) w'.seats (records ++ lines_of o (Some x.left)) (graves ++ more) v v.kind) (sym e)
-      (record_now w.sessions w.last s a w.seats w'.seats d.added (is_first s) net k.mid z graves (graves ++ more) has.rise first worker number empty
+      (record_now w.sessions w.last s a w.seats w'.seats d.added (is_first s) net k.mid z graves (graves ++ more) keeps.owners.rise first worker number empty
       (k.stop.links w.turns).adds keeps.alone client old_grave client_grave (touched_none d z t) some_touch
       records (stopped_of d z t) (Some x.left) v told k.stop.tells.leaves
       (λ none. own_kind s a (stopped_of d z t) (leaves_for (Some x.left)) v v.kind (no_conn d z t none) told.kind) (λ y f. (touched y f).2)
@@ -270,7 +280,7 @@ module _ (w w' : WorkerNow) (net net' : NetState) (x : Stopped) (k : StopsOne w 
 
   clients_stop : KeepsClients w.thread w.last (placed w.sessions a) (records ++ lines) (graves ++ more)
   clients_stop = subst (λ (gs : List Grave). KeepsClients w.thread w.last (placed w.sessions a) (records ++ lines) (graves ++ (closed ++ gs))) same_graves
-      (clients_go w.thread w.last w.sessions s a (stopped_of d z t) x.served (Some x.left) records graves closed (stop_no_client d z t) has.rise its first worker number
+      (clients_go w.thread w.last w.sessions s a (stopped_of d z t) x.served (Some x.left) records graves closed (stop_no_client d z t) keeps.owners.rise its first worker number
       (k.stop.links w.turns).records k.stop.tells.leaves rises keeps.clients)
 
   new_grave : (server : ServerNo) (id : ConnId) (l : LinkState) → Contains (graves ++ more) (grave (OfConn server id) l)
@@ -289,11 +299,21 @@ module _ (w w' : WorkerNow) (net net' : NetState) (x : Stopped) (k : StopsOne w 
   told = (k.stop.links w.turns).records
 
   conns_stop : KeepsConns (placed w.sessions a) w'.seats (records ++ lines) (graves ++ more)
-  conns_stop = conns_go w.sessions w.last s a w.seats w'.seats d.added (is_first s) net k.mid z graves (graves ++ more) records x.served (Some x.left) has.rise first worker number empty
+  conns_stop = conns_go w.sessions w.last s a w.seats w'.seats d.added (is_first s) net k.mid z graves (graves ++ more) records x.served (Some x.left) keeps.owners.rise first worker number empty
       (k.stop.links w.turns).adds keeps.alone (its_record s a (stopped_of d z t) (Some x.left) x.served told)
       (λ e. own_stop s a (stopped_of d z t) (Some x.left) x.served (no_conn d z t e) told) (touched_none d z t) (λ y e. (touched y e).0)
       (λ y e. exch_ends s a y (touched y e).0.goes.before x.served (went_is d z t y e)) (λ y e. passed_stop s y (touched y e).0.goes.after x.served (went_ends d z t y e) k.stop.tells.kind)
       (conn_stopped s a x.served (stopped_conn s k.client x.served)) rises.record_rises new_grave (held_in w.seats w.sessions seats.owns seats.one) keeps.conns
+
+  -- the client's dial stays
+  dial : a.client.dial ≡ s.client.dial
+  dial = ap (λ (l : LinkState). l.dial) (stopped_client s k.client x.served ∙ k.stop.stops.link)
+
+  owners_stop : KeepsOwners w.thread w.last (placed w.sessions a) w'.seats (records ++ lines) (graves ++ more)
+  owners_stop = subst (λ (gs : List Grave). KeepsOwners w.thread w.last (placed w.sessions a) w'.seats (records ++ lines) (graves ++ (closed ++ gs))) same_graves
+      (owners_go w.thread w.last w.sessions s a w.seats w'.seats x.served (Some x.left) records graves closed first worker number dial k.stop.tells.leaves
+      (stop_clients d z t) (stop_dials d z t)
+      (in_order (HasMarks s.worker s.number (is_first s) z) w.seats w'.seats d.added (k.stop.links w.turns).adds keeps.owners.order) keeps.owners)
 
   pub course_stop : KeepsCourse w' net' (records ++ lines) (graves ++ more)
   course_stop = record {
@@ -304,4 +324,7 @@ module _ (w w' : WorkerNow) (net net' : NetState) (x : Stopped) (k : StopsOne w 
         (subst (λ (ss : List SessionNow). KeepsClients w.thread w.last ss (records ++ lines) (graves ++ more)) gone clients_stop));
     truth = subst (λ (ss : List SessionNow). KeepsTruth ss w'.seats (records ++ lines) (graves ++ more)) gone truth_stop;
     conns = subst (λ (ss : List SessionNow). KeepsConns ss w'.seats (records ++ lines) (graves ++ more)) gone conns_stop;
+    owners = subst (λ (th : ThreadNo). KeepsOwners th w'.last w'.sessions w'.seats (records ++ lines) (graves ++ more)) (sym k.stays.thread)
+        (subst (λ (m : ℕ). KeepsOwners w.thread m w'.sessions w'.seats (records ++ lines) (graves ++ more)) (sym k.stays.last)
+        (subst (λ (ss : List SessionNow). KeepsOwners w.thread w.last ss w'.seats (records ++ lines) (graves ++ more)) gone owners_stop));
   }

@@ -107,6 +107,8 @@ pub record StepGoesOn (w w' : WorkerNow) (net net' : NetState) (n : SessionNo) (
     : Type 0 where
   -- bytes come behind the bytes of the client's link
   pub client : BytesGrow (what_of_link k.session.client) (what_of_link k.after.client)
+  -- whose dial stays
+  pub dial : k.after.client.dial ≡ k.session.client.dial
   pub took : StepTook (doing_of w w' net net' n r k) k.step.links.touches.touch k.step.links.touches.touched
   pub method : IfSome r.served (λ v. IsOfMethod k.session k.after.client (conn_after w w' net net' n r k) v v.kind)
   pub conn : ConnGoesOn k.session k.after r.served

@@ -7,6 +7,7 @@ use Rattle.hx_course.specs.Calls.{AreAlone}
 use Rattle.hx_course.specs.Clients.{KeepsClients}
 use Rattle.hx_course.specs.Conns.{KeepsConns}
 use Rattle.hx_course.specs.Graves.{Grave, AreBuried}
+use Rattle.hx_course.specs.Owners.{KeepsOwners}
 use Rattle.hx_course.specs.Truths.{KeepsTruth}
 
 -- the worker and its net, what was told so far, and whose links were buried so far
@@ -21,3 +22,5 @@ pub record KeepsCourse (w : WorkerNow) (net : NetState) (records : List Told) (g
   pub truth : KeepsTruth w.sessions w.seats records graves
   -- the exchanges of each connection are as many as its uses, and follow each other from its first byte
   pub conns : KeepsConns w.sessions w.seats records graves
+  -- whose the buried links are
+  pub owners : KeepsOwners w.thread w.last w.sessions w.seats records graves

@@ -1,10 +1,11 @@
 -- The links that were buried in a course of a worker, and whose each of them was.
-use Rattle.std.specs.Prelude.{List, [], ◌∷◌, map, Bool, true, false, Option, Some, None}
+use Rattle.std.specs.Prelude.{◌≡◌, List, [], ◌∷◌, map, Bool, true, false, Option, Some, None}
+use Rattle.std.specs.List.{flat_map}
 use Rattle.hx_base.specs.declared.numbers.ConnId.{ConnId}
 use Rattle.hx_base.specs.declared.numbers.ServerNo.{ServerNo}
 use Rattle.hx_base.specs.declared.numbers.SessionNo.{SessionNo}
 use Rattle.hx_base.specs.declared.numbers.ThreadNo.{ThreadNo}
-use Rattle.hx_link.specs.Nets.{NetState, StaysTold}
+use Rattle.hx_link.specs.Nets.{NetState, StaysTold, TellsDial}
 use Rattle.hx_link.specs.Told.{LinkState}
 use Rattle.hx_connecting.specs.Sessions.{SessionNow}
 
@@ -40,3 +41,19 @@ conn_graves server id (Some l) = grave (OfConn server id) l ∷ []
 abbrev pub client_graves : Bool → SessionNow → List Grave
 client_graves false s = []
 client_graves true s = grave (OfClient s.worker s.number) s.client ∷ []
+
+-- the session of a client's link
+abbrev pub client_of : Owner → List (ThreadNo × SessionNo)
+client_of (OfClient t n) = (t, n) ∷ []
+client_of (OfConn server id) = []
+client_of OfNobody = []
+
+-- the sessions whose clients' links were buried, in that order
+abbrev pub clients_of : List Grave → List (ThreadNo × SessionNo)
+clients_of graves = flat_map (λ g. client_of g.owner) graves
+
+-- a connection's link tells no other dial than that connection's, and a client's link tells none
+abbrev pub TellsOwner : Owner → LinkState → Type 0
+TellsOwner (OfConn server id) l = TellsDial server id l
+TellsOwner (OfClient t n) l = l.dial ≡ None
+TellsOwner OfNobody l = l.dial ≡ None

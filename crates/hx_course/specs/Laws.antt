@@ -1,5 +1,5 @@
 -- The laws of a course, as functions whose calls do nothing promise them.
-use Rattle.std.specs.Prelude.{◌≡◌, ℕ, List, [], ◌∷◌, ◌++◌, All, Some, slice_get}
+use Rattle.std.specs.Prelude.{◌≡◌, ℕ, List, [], ◌∷◌, ◌++◌, All, Some, None, slice_get}
 use Rattle.hx_base.specs.declared.numbers.Millis.{Millis}
 use Rattle.hx_base.specs.declared.numbers.SessionNo.{SessionNo}
 use Rattle.hx_base.specs.declared.numbers.ThreadNo.{ThreadNo}
@@ -20,40 +20,41 @@ use Rattle.hx_worker.specs.Admitting.{Admits}
 use Rattle.hx_worker.specs.Cares.{TicksAll, CarriesOut}
 use Rattle.hx_worker.specs.Steps.{Steps}
 use Rattle.hx_worker.specs.Stops.{StopsOne}
-use Rattle.hx_worker.specs.Workers.{WorkerNow, HasSeats, HasSessions, new_worker}
+use Rattle.hx_worker.specs.Workers.{WorkerNow, HasSeats, new_worker}
 use Rattle.hx_course.specs.Calls.{AreAlone, StepGoesOn, step_graves, stop_graves}
 use Rattle.hx_course.specs.Courses.{KeepsCourse}
 use Rattle.hx_course.specs.Endings.{TellsGraves, IsEmptied}
 use Rattle.hx_course.specs.Graves.{Grave, OfNobody, grave, AreBuried}
 use Rattle.hx_course.specs.Lines.{lines_of, TellsRising}
+use Rattle.hx_course.specs.Owners.{AreInOrder}
 use Rattle.hx_course.specs.Sweeping.{sweep_graves}
 
 -- a new worker at seats of its thread alone, where nothing was seen, and a net that buried nothing: nothing was told
 abbrev pub CoursesBegin : Type 0
 CoursesBegin =
     (t : ThreadNo) (config : Meaning) (seats : List History) (journals : List JournalRoom) (net : NetState)
-    → AreAlone seats → ((i : ℕ) (h : History) → slice_get seats i ≡ Some h → h.seen ≡ []) → AreBuried [] net
+    → AreAlone seats → AreInOrder seats → ((i : ℕ) (h : History) → slice_get seats i ≡ Some h → h.seen ≡ []) → AreBuried [] net
     → KeepsCourse (new_worker t config seats journals) net [] []
 
 -- a client is admitted, with which nothing is buried
 abbrev pub AdmitsKeep : Type 0
 AdmitsKeep =
     (w w' : WorkerNow) (net net' : NetState) (client : LinkState) (front : ℕ) (now : Millis) (n : SessionNo)
-    → Admits w w' client front now n → net'.buried ≡ net.buried
+    → Admits w w' client front now n → net'.buried ≡ net.buried → client.dial ≡ None
     → (records : List Told) (graves : List Grave) → KeepsCourse w net records graves → KeepsCourse w' net' records graves
 
 -- one that isn't admitted is buried
 abbrev pub TurnedKeep : Type 0
 TurnedKeep =
     (w : WorkerNow) (net net' : NetState) (client : LinkState) (records : List Told) (graves : List Grave)
-    → GainsAll (client ∷ []) net.buried net'.buried → KeepsCourse w net records graves
+    → client.dial ≡ None → GainsAll (client ∷ []) net.buried net'.buried → KeepsCourse w net records graves
     → KeepsCourse w net' records (graves ++ grave OfNobody client ∷ [])
 
 -- a session's step, with what it told and whose links it left to be buried
 abbrev pub StepsKeep : Type 0
 StepsKeep =
     (w w' : WorkerNow) (net net' : NetState) (n : SessionNo) (r : Step) (k : Steps w w' net net' n r)
-    (records : List Told) (graves : List Grave) → HasSessions w → HasSeats w → StepGoesOn w w' net net' n r k
+    (records : List Told) (graves : List Grave) → HasSeats w → StepGoesOn w w' net net' n r k
     → KeepsCourse w net records graves
     → KeepsCourse w' net' (records ++ lines_of r.served r.left) (graves ++ step_graves w w' net net' n r k)
 
@@ -61,7 +62,7 @@ StepsKeep =
 abbrev pub StopsKeep : Type 0
 StopsKeep =
     (w w' : WorkerNow) (net net' : NetState) (x : Stopped) (k : StopsOne w w' net net' x)
-    (records : List Told) (graves : List Grave) → HasSessions w → HasSeats w → TellsRising x.served (Some x.left)
+    (records : List Told) (graves : List Grave) → HasSeats w → TellsRising x.served (Some x.left)
     → KeepsCourse w net records graves
     → KeepsCourse w' net' (records ++ lines_of x.served (Some x.left)) (graves ++ stop_graves w w' net net' x k)
 

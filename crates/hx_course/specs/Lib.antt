@@ -12,4 +12,5 @@ pub mod Courses
 pub mod Sweeping
 pub mod Endings
 pub mod Conns
+pub mod Owners
 pub mod Laws

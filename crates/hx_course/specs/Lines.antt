@@ -1,5 +1,6 @@
 -- The lines that the calls of a course tell.
 use Rattle.std.specs.Prelude.{◌≡◌, ◌≤◌, false, List, [], ◌∷◌, ◌++◌, Option, Some, None, IfSome, ⊤}
+use Rattle.std.specs.List.{flat_map}
 use Rattle.hx_base.specs.declared.numbers.SessionNo.{SessionNo}
 use Rattle.hx_base.specs.declared.numbers.ThreadNo.{ThreadNo}
 use Rattle.hx_record.specs.Tiles.{is_line_of}
@@ -50,3 +51,12 @@ pub record Rises (r : Served) : Type 0 where
 pub record TellsRising (served : Option Served) (left : Option Left) : Type 0 where
   pub record_rises : IfSome served Rises
   pub left_rises : IfSome left (λ l. l.ask.from ≤ l.ask.to)
+
+-- the session that a Left ends
+abbrev pub ended_by : Told → List (ThreadNo × SessionNo)
+ended_by (told.Served r) = []
+ended_by (told.Left l) = (l.worker, l.session) ∷ []
+
+-- the sessions that ended, in order
+abbrev pub lefts_of : List Told → List (ThreadNo × SessionNo)
+lefts_of records = flat_map ended_by records
