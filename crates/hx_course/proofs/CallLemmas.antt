@@ -11,7 +11,7 @@ use Rattle.hx_base.specs.declared.order.Order.{Order}
 use Rattle.hx_base.specs.declared.what.What.{What}
 use Rattle.hx_conn.specs.WhatTold.{what_of_link}
 use Rattle.hx_config.specs.Meaning.{Meaning}
-use Rattle.hx_link.specs.Nets.{NetState}
+use Rattle.hx_link.specs.Nets.{DialTold, NetState, StaysTold}
 use Rattle.hx_link.specs.Told.{LinkState}
 use Rattle.hx_pool.specs.declared.entries.Note.{Note}
 use Rattle.hx_pool.specs.History.{table_after}
@@ -36,12 +36,13 @@ use Rattle.hx_course.specs.Conns.{CoversHeld, HeldTells, KeepsConns}
 use Rattle.hx_course.specs.Courses.{KeepsCourse}
 use Rattle.hx_course.specs.Graves.{Grave, OfClient, OfConn, OfNobody, grave, AreBuried, TellsOwner}
 use Rattle.hx_course.specs.Owners.{AreInOrder, KeepsOwners}
-use Rattle.hx_course.specs.Places.{ClientIs, IsAtRest, IsInGrave, ConnIs, BytesGrow, LinksGoOn}
+use Rattle.hx_course.proofs.DialLemmas.{dials_stay, stays_none}
+use Rattle.hx_course.specs.Places.{KeepsDials, ClientIs, IsAtRest, IsInGrave, ConnIs, BytesGrow, LinksGoOn}
 use Rattle.hx_course.specs.Sweeping.{sweep_graves}
 use Rattle.hx_course.specs.Truths.{IsTrueNow, KeepsTruth}
 use Rattle.hx_course.proofs.CareLemmas.{CaredAt, ticks_cared, orders_cared, alone_cared, all_cared_links, sweep_no_client, rest_on, conns_care, all_order_cared, sweep_clients, sweep_dials}
 use Rattle.hx_course.proofs.ClientLemmas.{clients_begin, clients_more, clients_admit}
-use Rattle.hx_course.proofs.Numbers.{session_old, session_more}
+use Rattle.hx_course.proofs.Numbers.{some_is, session_old, session_more}
 use Rattle.hx_course.proofs.OwnerLemmas.{owners_more, owners_admit}
 use Rattle.hx_course.proofs.StepLemmas.{buried_more}
 use Rattle.hx_course.proofs.TableLemmas.{none_in, one_in}
@@ -55,8 +56,8 @@ truth_same ss ss' seats seats' graves graves' records go k r c =
 
 -- ---- a course begins
 
-pub course_begin : (t : ThreadNo) (config : Meaning) (seats : List History) (journals : List JournalRoom) (net : NetState) → AreAlone seats → AreInOrder seats → ((i : ℕ) (h : History) → slice_get seats i ≡ Some h → h.seen ≡ []) → AreBuried [] net → KeepsCourse (new_worker t config seats journals) net [] []
-course_begin t config seats journals net alone order unused none = record {
+pub course_begin : (t : ThreadNo) (config : Meaning) (seats : List History) (journals : List JournalRoom) (net : NetState) → AreAlone seats → AreInOrder seats → ((i : ℕ) (h : History) → slice_get seats i ≡ Some h → h.seen ≡ []) → AreBuried [] net → StaysTold (Some []) net.dials → KeepsCourse (new_worker t config seats journals) net [] []
+course_begin t config seats journals net alone order unused none no_dial = record {
   alone = alone;
   buried = none;
   clients = clients_begin t;
@@ -67,16 +68,22 @@ course_begin t config seats journals net alone order unused none = record {
     fresh = λ server id h at none. conn_none server id;
     buried = λ server id l c. absurd (none_in (grave (OfConn server id) l) c);
   };
-  owners = record { rise = omega arith; its = λ n s e. cc; order = order; clients = λ n s e. cc; dials = λ g c. absurd (none_in g c); lefts = refl };
+  owners = record { rise = omega arith; its = λ n s e. cc; order = order; clients = λ n s e. cc; dials = λ g c. absurd (none_in g c); lefts = refl; each = λ n low high. absurd (omega arith) };
+  dials = λ ds told d there answered. absurd (undialled ds told d there);
 }
   where
+    undialled : (ds : List DialTold) → net.dials ≡ Some ds → (d : DialTold) → Contains ds d → ⊥
+    undialled ds told d there = ⊎_elim
+        (λ (e : net.dials ≡ Some []). let same : ds ≡ [] = some_is ds [] (sym told ∙ e) in none_in d (subst (λ (xs : List DialTold). Contains xs d) same there))
+        (λ (e : net.dials ≡ None). let other : None ≡ Some ds = sym e ∙ told in cc) no_dial
+
     nothing : (server : ServerNo) (id : ConnId) (v : What) → IsAtRest seats server id v → ⊥
     nothing server id v r =
         let none : Unopened ≡ IdleAt r.place = sym (ap (λ (H : List Note). (table_after H).conns id.0) (unused server.0 r.seat r.at)) ∙ r.rests in cc
 
 -- ---- a client comes
 
-module _ (w w' : WorkerNow) (net net' : NetState) (client : LinkState) (front : ℕ) (now : Millis) (n : SessionNo) (k : Admits w w' client front now n) (same : net'.buried ≡ net.buried) (dial : client.dial ≡ None)
+module _ (w w' : WorkerNow) (net net' : NetState) (client : LinkState) (front : ℕ) (now : Millis) (n : SessionNo) (k : Admits w w' client front now n) (same : net'.buried ≡ net.buried) (same_dials : net'.dials ≡ net.dials) (dial : client.dial ≡ None)
     (records : List Told) (graves : List Grave) (keeps : KeepsCourse w net records graves) where
   abbrev s : SessionNow
   s = admitted w.thread n front now.0 client
@@ -114,6 +121,7 @@ module _ (w w' : WorkerNow) (net net' : NetState) (client : LinkState) (front : 
     truth = truth_same w.sessions ss w.seats w.seats graves graves records links_admit keeps.truth;
     conns = record { held = held_on; rests = keeps.conns.rests; fresh = keeps.conns.fresh; buried = keeps.conns.buried };
     owners = owners_admit w.thread w.last w.sessions w.seats records graves n front now.0 client k.number dial keeps.owners;
+    dials = dials_stay w.sessions ss w.seats w.seats graves graves net net' links_admit (stays_none net.dials net'.dials (inl same_dials)) keeps.dials;
   })
     where
       links : List Grave → List LinkState
@@ -143,9 +151,9 @@ module _ (w : WorkerNow) (seats' : List History) (graves more : List Grave)
   links_care = record { clients = client_stays; conns = conn_stays; stay = old_grave }
 
 -- a client that wasn't admitted is buried
-pub course_turned : (w : WorkerNow) (net net' : NetState) (client : LinkState) (records : List Told) (graves : List Grave) → client.dial ≡ None → GainsAll (client ∷ []) net.buried net'.buried
+pub course_turned : (w : WorkerNow) (net net' : NetState) (client : LinkState) (records : List Told) (graves : List Grave) → client.dial ≡ None → GainsAll (client ∷ []) net.buried net'.buried → StaysTold net.dials net'.dials
     → KeepsCourse w net records graves → KeepsCourse w net' records (graves ++ grave OfNobody client ∷ [])
-course_turned w net net' client records graves dial gains k =
+course_turned w net net' client records graves dial gains dialled k =
     let more = grave OfNobody client ∷ [] in record {
       alone = k.alone;
       buried = buried_more graves more (client ∷ []) net net' refl k.buried gains;
@@ -162,6 +170,7 @@ course_turned w net net' client records graves dial gains k =
       };
       owners = owners_more w.thread w.last w.sessions w.seats w.seats records graves more refl
           (λ g c. subst (λ (z : Grave). TellsOwner z.owner z.link) (one_in (grave OfNobody client) g c) dial) k.owners.order k.owners;
+      dials = dials_stay w.sessions w.sessions w.seats w.seats graves (graves ++ more) net net' (links_care w w.seats graves more (λ server id v r. inl r)) (stays_none net.dials net'.dials dialled) k.dials;
     }
   where
     no_conn : (server : ServerNo) (id : ConnId) → OfNobody ≡ OfConn server id → ⊥
@@ -200,6 +209,8 @@ module _ (P : ℕ → History → History → Sweep → Type 0) (cared : (i : �
         (subst (λ (m : ℕ). KeepsOwners w.thread m w'.sessions w'.seats records (graves ++ more)) (sym k.stays.last)
         (subst (λ (ss : List SessionNow). KeepsOwners w.thread w.last ss w'.seats records (graves ++ more)) (sym k.sessions)
         (owners_more w.thread w.last w.sessions w.seats w'.seats records graves more (sweep_clients 0 sweeps) (sweep_dials P w.seats w'.seats sweeps cared k.cares.each order_on) order_on keeps.owners)));
+    dials = subst (λ (ss : List SessionNow). KeepsDials ss w'.seats (graves ++ more) net') (sym k.sessions)
+        (dials_stay w.sessions w.sessions w.seats w'.seats graves (graves ++ more) net net' links_cared (stays_none net.dials net'.dials k.cares.buries.dials) keeps.dials);
   }
 
 -- a round of the caretaker, and an order

@@ -350,6 +350,10 @@ module _ (ss : List SessionNow) (last : ℕ) (s a : SessionNow) (seats seats' : 
     conn_on (inr (inl r)) = at_rest_on r
     conn_on (inr (inr g)) = (v, inr (inr (record { link = g.link; there = old_grave (grave (OfConn server id) g.link) g.there; tells = g.tells })), told_same v.told)
 
+  -- a connection that was touched is somewhere, where its link is told of
+  pub touched_place : (y : Touch) (is : x ≡ Some y) (v : What) → (some y is).0.goes.after ≡ Some v → ConnIs ss' seats' graves' y.server y.id v
+  touched_place y is v after = place_of y (some y is).0 is (some y is).1 y.went refl (some y is).0.had (some y is).0.goes.is v after
+
   pub links_on : LinksGoOn ss ss' seats seats' graves graves'
   links_on = record { clients = client_on; conns = conn_on; stay = old_grave }
 

@@ -7,6 +7,7 @@ pub mod TruthLemmas
 pub mod GoingLemmas
 pub mod ConnLemmas
 pub mod OwnerLemmas
+pub mod DialLemmas
 pub mod StepLemmas
 pub mod StopLemmas
 pub mod CareLemmas

@@ -1,8 +1,8 @@
 -- Whose the buried links are: what each call keeps of that.
-use Rattle.std.proofs.Common.{◌≡◌, ⊎_elim, ℕ, zero, suc, ◌+◌, Bool, true, false, List, [], ◌∷◌, ◌++◌, refl, sym, ap, ◌∙◌, subst, append-nil, arith, Option, Some, None}
+use Rattle.std.proofs.Common.{◌≡◌, ⊎_elim, ℕ, zero, suc, ◌+◌, Bool, true, false, List, [], ◌∷◌, ◌++◌, refl, sym, ap, ◌∙◌, subst, append-nil, arith, Option, Some, None, IsSome, ◌⊎◌, inl, inr}
 use Rattle.std.specs.Prelude.{Contains, slice_get, if◌then◌else◌}
 use Rattle.std.proofs.lemmas.Grind.{flat_map-append}
-use Rattle.std.proofs.lemmas.List.Elements.{Contains-append_cases}
+use Rattle.std.proofs.lemmas.List.Elements.{Contains-append_cases, Contains-append_left, Contains-append_right, Contains-push}
 use mathlib.Core.Logic.{dite}
 use native.Mathlib.Decide.{ℕ_discrete}
 use Rattle.hx_base.specs.declared.numbers.ConnId.{ConnId}
@@ -25,7 +25,8 @@ use Rattle.hx_worker.specs.Workers.{session_of, NumbersRise}
 use Rattle.hx_course.specs.Graves.{OfClient, OfConn, Grave, grave, conn_graves, client_graves, client_of, clients_of, TellsOwner}
 use Rattle.hx_course.specs.Lines.{served_line, left_line, lines_of, ended_by, lefts_of}
 use Rattle.hx_course.specs.Owners.{AreInOrder, KeepsOwners}
-use Rattle.hx_course.proofs.Numbers.{some_is, session_more}
+use Rattle.hx_course.proofs.Numbers.{some_is, number_is, none_above, session_more, session_new, session_old}
+use Rattle.hx_course.proofs.ConnLines.{is_some, some_is_there}
 use Rattle.hx_course.proofs.TableLemmas.{none_in, one_in}
 
 -- ---- lists
@@ -79,6 +80,26 @@ order_after P i j (x ∷ old) (y ∷ new) (es ∷ added) a order (suc k) h e =
 
 -- ---- a session's call
 
+-- the session of that number is there, or its client's link is buried
+abbrev IsSomewhere : List SessionNow → List Grave → ThreadNo → SessionNo → Type 0
+IsSomewhere ss graves t n = IsSome (session_of ss n.0) ⊎ ((l : LinkState) × Contains graves (grave (OfClient t n) l))
+
+-- one that was there is there, or is over and its client's link is buried
+still_somewhere : (last : ℕ) (ss : List SessionNow) (s a : SessionNow) (graves closed : List Grave) → NumbersRise 0 ss last → session_of ss a.number.0 ≡ Some s → (t : ThreadNo) → a.worker ≡ t
+    → (n : SessionNo) → IsSome (session_of ss n.0) → IsSomewhere (placed ss a) (graves ++ (closed ++ client_graves a.over a)) t n
+still_somewhere last ss s a graves closed rise here t w n is = dite (ℕ_discrete a.number.0 n.0)
+    (λ (e : a.number.0 ≡ n.0).
+    subst (λ (u : ThreadNo). IsSomewhere (placed ss a) (graves ++ (closed ++ client_graves a.over a)) u n) w
+    (subst (λ (m : SessionNo). IsSomewhere (placed ss a) (graves ++ (closed ++ client_graves a.over a)) a.worker m) (number_is a.number n e) (by_over a.over refl)))
+    (λ ne. inl (subst (λ (o : Option SessionNow). IsSome o) (sym (placed_other ss a n.0 ne)) is))
+  where
+    by_over : (b : Bool) → a.over ≡ b → IsSomewhere (placed ss a) (graves ++ (closed ++ client_graves a.over a)) a.worker a.number
+    by_over true o =
+        let g = grave (OfClient a.worker a.number) a.client in
+        inr (a.client, Contains-append_right graves (closed ++ client_graves a.over a) g (Contains-append_right closed (client_graves a.over a) g
+        (subst (λ (b : Bool). Contains (client_graves b a) g) (sym o) (Contains-push [] g))))
+    by_over false o = inl (subst (λ (p : Option SessionNow). IsSome p) (sym (placed_same 0 last ss s a rise here ∙ ap (λ (b : Bool). if b then None else Some a) o)) refl)
+
 pub owners_go : (t : ThreadNo) (last : ℕ) (ss : List SessionNow) (s a : SessionNow) (seats seats' : List History) (served : Option Served) (left : Option Left) (records : List Told) (graves closed : List Grave)
     → session_of ss s.number.0 ≡ Some s → a.worker ≡ s.worker → a.number ≡ s.number → a.client.dial ≡ s.client.dial → Leaves a left → clients_of closed ≡ []
     → ((g : Grave) → Contains closed g → TellsOwner g.owner g.link) → AreInOrder seats' → KeepsOwners t last ss seats records graves
@@ -100,6 +121,10 @@ owners_go t last ss s a seats seats' served left records graves closed there wor
           (Contains-append_cases closed (client_graves a.over a) g new))
           (Contains-append_cases graves (closed ++ client_graves a.over a) g c);
       lefts = lefts_go records graves closed a served left none leaves k.lefts;
+      each = λ n low high.
+          ⊎_elim (λ (is : IsSome (session_of ss n.0)). still_somewhere last ss s a graves closed k.rise here t its n is)
+          (λ (b : (l : LinkState) × Contains graves (grave (OfClient t n) l)). inr (b.0, Contains-append_left graves (closed ++ client_graves a.over a) (grave (OfClient t n) b.0) b.1))
+          (k.each n low high);
     }
   where
     of_each : (Q : SessionNow → Type 0) (n : ℕ) (m : SessionNow) → session_of (placed ss a) n ≡ Some m → session_of (placed ss a) a.number.0 ≡ if_going a → Q a → (session_of ss n ≡ Some m → Q m) → Q m
@@ -132,6 +157,9 @@ owners_more t last ss seats seats' records graves more none dials order k = reco
   clients = k.clients;
   dials = λ g c. ⊎_elim (λ (h : Contains graves g). k.dials g h) (λ (h : Contains more g). dials g h) (Contains-append_cases graves more g c);
   lefts = clients_both graves more ∙ (ap (λ xs. clients_of graves ++ xs) none ∙ (append-nil (clients_of graves) ∙ k.lefts));
+  each = λ n low high.
+      ⊎_elim (λ (is : IsSome (session_of ss n.0)). inl is)
+      (λ (b : (l : LinkState) × Contains graves (grave (OfClient t n) l)). inr (b.0, Contains-append_left graves more (grave (OfClient t n) b.0) b.1)) (k.each n low high);
 }
 
 rise_more : (k m : ℕ) (ss : List SessionNow) (s : SessionNow) → s.number.0 ≡ m + 1 → NumbersRise k ss m → NumbersRise k (ss ++ s ∷ []) (m + 1)
@@ -148,4 +176,11 @@ owners_admit t last ss seats records graves n front now client next none k =
       clients = λ j m e. ⊎_elim (λ (was : session_of ss j ≡ Some m). k.clients j m was) (λ (new : (s.number.0 ≡ j) × (m ≡ s)). ap (λ (z : SessionNow). z.client.dial) new.1 ∙ none) (session_more ss s j m e);
       dials = k.dials;
       lefts = k.lefts;
+      each = λ m low high. dite (ℕ_discrete s.number.0 m.0)
+          (λ (e : s.number.0 ≡ m.0).
+          inl (some_is_there (session_of (ss ++ s ∷ []) m.0) s (session_new ss s m.0 (none_above 0 last ss m.0 k.rise (omega (arith, e, next))) e)))
+          (λ ne.
+          ⊎_elim
+          (λ (is : IsSome (session_of ss m.0)). let o = is_some (session_of ss m.0) is in inl (some_is_there (session_of (ss ++ s ∷ []) m.0) o.0 (session_old ss s m.0 o.0 o.1)))
+          (λ (b : (l : LinkState) × Contains graves (grave (OfClient t m) l)). inr b) (k.each m low (omega (arith, ne, next, high))));
     }

@@ -11,7 +11,7 @@ use Rattle.hx_base.specs.declared.what.LinkTold.{LinkTold}
 use Rattle.hx_base.specs.declared.what.What.{What}
 use Rattle.hx_conn.specs.Conns.{BusyNow}
 use Rattle.hx_conn.specs.WhatTold.{what_of_link}
-use Rattle.hx_link.specs.Nets.{NetState, TellsDial}
+use Rattle.hx_link.specs.Nets.{DialTold, NetState, TellsDial}
 use Rattle.hx_link.specs.Told.{LinkState}
 use Rattle.hx_message.specs.Message.{Persists}
 use Rattle.hx_pool.specs.SeatView.{About, History}
@@ -33,7 +33,8 @@ use Rattle.hx_session.specs.Doings.{Doing}
 use Rattle.hx_session.specs.Records.{WhereTold, Leaves}
 use Rattle.hx_session.specs.Touching.{Touches, TouchesOne, after_of}
 use Rattle.hx_session.specs.declared.step.Step.{Step}
-use Rattle.hx_worker.specs.Headline.{doing_of}
+use Rattle.hx_worker.proofs.HeadlineOfStep.{headline_of_step}
+use Rattle.hx_worker.specs.Headline.{doing_of, dialled_by}
 use Rattle.hx_session.specs.Telling.{RecordsTold}
 use Rattle.hx_worker.specs.Steps.{Steps, gone_of, buried_with, placed}
 use Rattle.hx_worker.specs.Workers.{WorkerNow, HasSeats, session_of}
@@ -44,11 +45,12 @@ use Rattle.hx_course.specs.Courses.{KeepsCourse}
 use Rattle.hx_course.specs.Graves.{Grave, OfClient, OfConn, grave, links_of, AreBuried, conn_graves, client_graves, clients_of, TellsOwner}
 use Rattle.hx_course.specs.Lines.{served_line, left_line, lines_of}
 use Rattle.hx_course.specs.Owners.{AreInOrder, KeepsOwners}
-use Rattle.hx_course.specs.Places.{LinksGoOn}
+use Rattle.hx_course.proofs.DialLemmas.{dials_on, step_dialled}
+use Rattle.hx_course.specs.Places.{ConnIs, KeepsDials, LinksGoOn}
 use Rattle.hx_course.specs.Truths.{IsTrueOpen, IsTrueNow, KeepsTruth}
 use Rattle.hx_course.proofs.ClientLemmas.{clients_go, not_conn}
 use Rattle.hx_course.proofs.ConnLemmas.{its_record, held_in, conns_go}
-use Rattle.hx_course.proofs.GoingLemmas.{links_on, record_now}
+use Rattle.hx_course.proofs.GoingLemmas.{touched_place, links_on, record_now}
 use Rattle.hx_course.proofs.Numbers.{some_is, found_number}
 use Rattle.hx_course.proofs.OwnerLemmas.{conn_clients, conn_dials, order_after, owners_go}
 use Rattle.hx_course.proofs.TableLemmas.{none_in, one_in}
@@ -244,7 +246,7 @@ step_clients d (Some z) t = conn_clients z.server z.id t.goes.gone
 pub in_order : (P : ℕ → List Note → Type 0) (old new : List History) (added : List (List Note)) → AddsEach P 0 old new added → AreInOrder old → AreInOrder new
 in_order P old new added a order k h e = order_after P 0 0 old new added a (λ m g f. order m g f ∙ omega arith) k h e ∙ omega arith
 
-module _ (w w' : WorkerNow) (net net' : NetState) (n : SessionNo) (r : Step) (k : Steps w w' net net' n r) (records : List Told) (graves : List Grave) (seats : HasSeats w)
+module _ (w w' : WorkerNow) (net net' : NetState) (n : SessionNo) (r : Step) (k : Steps w w' net net' n r) (records : List Told) (graves : List Grave) (seats : HasSeats w) (seats' : HasSeats w')
     (goes : StepGoesOn w w' net net' n r k) (keeps : KeepsCourse w net records graves) where
   abbrev s : SessionNow
   s = k.session
@@ -338,6 +340,20 @@ module _ (w w' : WorkerNow) (net net' : NetState) (n : SessionNo) (r : Step) (k 
       k.step.links.touches.adds keeps.alone (its_record s a (after_of d x t) r.left r.served k.step.links.records) (own_all d x t) (touched_none d x t) (λ y e. (touched y e).0)
       (λ y e. (touched y e).4) (λ y e. (touched y e).5) goes.conn goes.rises.record_rises new_grave (held_in w.seats w.sessions seats.owns seats.one) keeps.conns
 
+  new_dial : (e : DialTold) → Contains (dialled_by d x t) e → e.answered ≡ true → (v : What) × ConnIs (placed w.sessions a) w'.seats (graves ++ more) e.server e.id v
+  unfolding some_touch touched
+  new_dial e c answered =
+      let r = step_dialled d x t e c answered in
+      let v = r.4.0 in
+      let place : ConnIs (placed w.sessions a) w'.seats (graves ++ more) r.0.server r.0.id v =
+      touched_place w.sessions w.last s a w.seats w'.seats d.added (is_first s) net k.mid x graves (graves ++ more) keeps.owners.rise there k.step.same.worker k.step.same.number empty
+      k.step.links.touches.adds keeps.alone goes.client old_grave client_grave (touched_none d x t) some_touch r.0 r.1 v (sym (touched r.0 r.1).2 ∙ r.4.1) in
+      (v, subst (λ (n : ServerNo). ConnIs (placed w.sessions a) w'.seats (graves ++ more) n e.id v) (sym r.2)
+      (subst (λ (i : ConnId). ConnIs (placed w.sessions a) w'.seats (graves ++ more) r.0.server i v) (sym r.3) place))
+
+  dials_step : KeepsDials (placed w.sessions a) w'.seats (graves ++ more) net'
+  dials_step = dials_on w.sessions (placed w.sessions a) w.seats w'.seats graves (graves ++ more) net net' (dialled_by d x t) links_step (headline_of_step w w' net net' n r k seats').dialled new_dial keeps.dials
+
   pub course_step : KeepsCourse w' net' (records ++ lines) (graves ++ more)
   course_step = record {
     alone = alone_after (HasMarks s.worker s.number (is_first s) x) 0 w.seats w'.seats d.added k.step.links.touches.adds keeps.alone;
@@ -353,4 +369,5 @@ module _ (w w' : WorkerNow) (net net' : NetState) (n : SessionNo) (r : Step) (k 
         (owners_go w.thread w.last w.sessions s a w.seats w'.seats r.served r.left records graves closed there k.step.same.worker k.step.same.number goes.dial k.step.tells.leaves
         (step_clients d x t) (step_dials d x t)
         (in_order (HasMarks s.worker s.number (is_first s) x) w.seats w'.seats d.added k.step.links.touches.adds keeps.owners.order) keeps.owners)));
+    dials = subst (λ (ss : List SessionNow). KeepsDials ss w'.seats (graves ++ more) net') (sym k.sessions) dials_step;
   }

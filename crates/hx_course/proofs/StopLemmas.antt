@@ -38,7 +38,8 @@ use Rattle.hx_course.specs.Courses.{KeepsCourse}
 use Rattle.hx_course.specs.Graves.{Grave, OfClient, OfConn, grave, links_of, conn_graves, client_graves, clients_of, TellsOwner}
 use Rattle.hx_course.specs.Lines.{lines_of, TellsRising}
 use Rattle.hx_course.specs.Owners.{KeepsOwners}
-use Rattle.hx_course.specs.Places.{ToldGrows, BytesGrow, LinksGoOn}
+use Rattle.hx_course.proofs.DialLemmas.{dials_stay, then_stays, stop_dialled}
+use Rattle.hx_course.specs.Places.{KeepsDials, ToldGrows, BytesGrow, LinksGoOn}
 use Rattle.hx_course.specs.Truths.{IsTrueNow, KeepsTruth}
 use Rattle.hx_course.proofs.ClientLemmas.{clients_go, not_conn}
 use Rattle.hx_course.proofs.ConnLemmas.{its_record, held_in, conns_go}
@@ -315,6 +316,10 @@ module _ (w w' : WorkerNow) (net net' : NetState) (x : Stopped) (k : StopsOne w 
       (stop_clients d z t) (stop_dials d z t)
       (in_order (HasMarks s.worker s.number (is_first s) z) w.seats w'.seats d.added (k.stop.links w.turns).adds keeps.owners.order) keeps.owners)
 
+  dials_stop : KeepsDials (placed w.sessions a) w'.seats (graves ++ more) net'
+  dials_stop = dials_stay w.sessions (placed w.sessions a) w.seats w'.seats graves (graves ++ more) net net' links_stop
+      (then_stays net.dials k.mid.dials net'.dials (stop_dialled d z t) k.buries.1.dials) keeps.dials
+
   pub course_stop : KeepsCourse w' net' (records ++ lines) (graves ++ more)
   course_stop = record {
     alone = alone_after (HasMarks s.worker s.number (is_first s) z) 0 w.seats w'.seats d.added (k.stop.links w.turns).adds keeps.alone;
@@ -327,4 +332,5 @@ module _ (w w' : WorkerNow) (net net' : NetState) (x : Stopped) (k : StopsOne w 
     owners = subst (λ (th : ThreadNo). KeepsOwners th w'.last w'.sessions w'.seats (records ++ lines) (graves ++ more)) (sym k.stays.thread)
         (subst (λ (m : ℕ). KeepsOwners w.thread m w'.sessions w'.seats (records ++ lines) (graves ++ more)) (sym k.stays.last)
         (subst (λ (ss : List SessionNow). KeepsOwners w.thread w.last ss w'.seats (records ++ lines) (graves ++ more)) gone owners_stop));
+    dials = subst (λ (ss : List SessionNow). KeepsDials ss w'.seats (graves ++ more) net') gone dials_stop;
   }

@@ -8,6 +8,7 @@ use Rattle.hx_course.specs.Clients.{KeepsClients}
 use Rattle.hx_course.specs.Conns.{KeepsConns}
 use Rattle.hx_course.specs.Graves.{Grave, AreBuried}
 use Rattle.hx_course.specs.Owners.{KeepsOwners}
+use Rattle.hx_course.specs.Places.{KeepsDials}
 use Rattle.hx_course.specs.Truths.{KeepsTruth}
 
 -- the worker and its net, what was told so far, and whose links were buried so far
@@ -24,3 +25,5 @@ pub record KeepsCourse (w : WorkerNow) (net : NetState) (records : List Told) (g
   pub conns : KeepsConns w.sessions w.seats records graves
   -- whose the buried links are
   pub owners : KeepsOwners w.thread w.last w.sessions w.seats records graves
+  -- each connection that was dialled is somewhere
+  pub dials : KeepsDials w.sessions w.seats graves net

@@ -5,7 +5,7 @@ use Rattle.hx_base.specs.declared.numbers.SessionNo.{SessionNo}
 use Rattle.hx_base.specs.declared.numbers.ThreadNo.{ThreadNo}
 use Rattle.hx_base.specs.declared.order.Order.{Order}
 use Rattle.hx_config.specs.Meaning.{Meaning}
-use Rattle.hx_link.specs.Nets.{NetState}
+use Rattle.hx_link.specs.Nets.{NetState, StaysTold}
 use Rattle.hx_link.specs.Told.{LinkState}
 use Rattle.hx_pool.specs.SeatView.{History}
 use Rattle.hx_record.specs.Tiles.{TilesClient, TilesConn}
@@ -34,27 +34,30 @@ abbrev pub CoursesBegin : Type 0
 CoursesBegin =
     (t : ThreadNo) (config : Meaning) (seats : List History) (journals : List JournalRoom) (net : NetState)
     → AreAlone seats → AreInOrder seats → ((i : ℕ) (h : History) → slice_get seats i ≡ Some h → h.seen ≡ []) → AreBuried [] net
+    → StaysTold (Some []) net.dials
     → KeepsCourse (new_worker t config seats journals) net [] []
 
 -- a client is admitted, with which nothing is buried
 abbrev pub AdmitsKeep : Type 0
 AdmitsKeep =
     (w w' : WorkerNow) (net net' : NetState) (client : LinkState) (front : ℕ) (now : Millis) (n : SessionNo)
-    → Admits w w' client front now n → net'.buried ≡ net.buried → client.dial ≡ None
+    → Admits w w' client front now n → net'.buried ≡ net.buried → net'.dials ≡ net.dials
+    → client.dial ≡ None
     → (records : List Told) (graves : List Grave) → KeepsCourse w net records graves → KeepsCourse w' net' records graves
 
 -- one that isn't admitted is buried
 abbrev pub TurnedKeep : Type 0
 TurnedKeep =
     (w : WorkerNow) (net net' : NetState) (client : LinkState) (records : List Told) (graves : List Grave)
-    → client.dial ≡ None → GainsAll (client ∷ []) net.buried net'.buried → KeepsCourse w net records graves
+    → client.dial ≡ None → GainsAll (client ∷ []) net.buried net'.buried → StaysTold net.dials net'.dials
+    → KeepsCourse w net records graves
     → KeepsCourse w net' records (graves ++ grave OfNobody client ∷ [])
 
 -- a session's step, with what it told and whose links it left to be buried
 abbrev pub StepsKeep : Type 0
 StepsKeep =
     (w w' : WorkerNow) (net net' : NetState) (n : SessionNo) (r : Step) (k : Steps w w' net net' n r)
-    (records : List Told) (graves : List Grave) → HasSeats w → StepGoesOn w w' net net' n r k
+    (records : List Told) (graves : List Grave) → HasSeats w → HasSeats w' → StepGoesOn w w' net net' n r k
     → KeepsCourse w net records graves
     → KeepsCourse w' net' (records ++ lines_of r.served r.left) (graves ++ step_graves w w' net net' n r k)
 

@@ -1,11 +1,13 @@
 -- Which of a worker's sessions are there, and whose the buried links are, over a whole course.
-use Rattle.std.specs.Prelude.{◌≡◌, ℕ, List, Contains, Some, None, slice_get}
+use Rattle.std.specs.Prelude.{◌≡◌, ◌⊎◌, ◌≤◌, ℕ, List, Contains, Some, None, IsSome, slice_get}
+use Rattle.hx_base.specs.declared.numbers.SessionNo.{SessionNo}
 use Rattle.hx_base.specs.declared.numbers.ThreadNo.{ThreadNo}
+use Rattle.hx_link.specs.Told.{LinkState}
 use Rattle.hx_pool.specs.SeatView.{History}
 use Rattle.hx_record.specs.declared.served.Told.{Told}
 use Rattle.hx_connecting.specs.Sessions.{SessionNow}
 use Rattle.hx_worker.specs.Workers.{session_of, NumbersRise}
-use Rattle.hx_course.specs.Graves.{Grave, TellsOwner, clients_of}
+use Rattle.hx_course.specs.Graves.{Grave, OfClient, grave, TellsOwner, clients_of}
 use Rattle.hx_course.specs.Lines.{lefts_of}
 
 -- each seat is that of the server with its number
@@ -25,3 +27,6 @@ pub record KeepsOwners (t : ThreadNo) (last : ℕ) (sessions : List SessionNow) 
   pub dials : (g : Grave) → Contains graves g → TellsOwner g.owner g.link
   -- clients' links were buried in the order of their sessions' Lefts
   pub lefts : clients_of graves ≡ lefts_of records
+  -- each number that was given is one of a session that is there, or of one whose client's link was buried
+  pub each : (n : SessionNo) → 1 ≤ n.0 → n.0 ≤ last
+      → IsSome (session_of sessions n.0) ⊎ ((l : LinkState) × Contains graves (grave (OfClient t n) l))

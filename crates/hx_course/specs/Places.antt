@@ -1,5 +1,5 @@
 -- Where the link of each session's client and of each connection is in a course of a worker, and that it goes on there.
-use Rattle.std.specs.Prelude.{◌≡◌, ◌⊎◌, ℕ, List, ◌++◌, Contains, Option, Some, IfSome, slice_get}
+use Rattle.std.specs.Prelude.{◌≡◌, ◌⊎◌, ℕ, true, List, ◌++◌, Contains, Option, Some, IfSome, slice_get}
 use Rattle.hx_base.specs.declared.numbers.ConnId.{ConnId}
 use Rattle.hx_base.specs.declared.numbers.PlaceNo.{PlaceNo}
 use Rattle.hx_base.specs.declared.numbers.ServerNo.{ServerNo}
@@ -8,6 +8,7 @@ use Rattle.hx_base.specs.declared.numbers.ThreadNo.{ThreadNo}
 use Rattle.hx_base.specs.declared.what.LinkTold.{LinkTold}
 use Rattle.hx_base.specs.declared.what.What.{What}
 use Rattle.hx_conn.specs.WhatTold.{what_of_link}
+use Rattle.hx_link.specs.Nets.{DialTold, NetState}
 use Rattle.hx_link.specs.Told.{LinkState}
 use Rattle.hx_pool.specs.History.{table_after, what_of}
 use Rattle.hx_pool.specs.SeatView.{History}
@@ -76,3 +77,9 @@ pub record LinksGoOn (sessions sessions' : List SessionNow) (seats seats' : List
   pub conns : (server : ServerNo) (id : ConnId) (v : What) → ConnIs sessions seats graves server id v
       → (w : What) × ConnIs sessions' seats' graves' server id w × BytesGrow v w
   pub stay : (g : Grave) → Contains graves g → Contains graves' g
+
+-- each connection that was dialled and could be had is somewhere still, where the net tells its dials
+abbrev pub KeepsDials : List SessionNow → List History → List Grave → NetState → Type 0
+KeepsDials sessions seats graves net =
+    (dials : List DialTold) → net.dials ≡ Some dials → (d : DialTold) → Contains dials d → d.answered ≡ true
+    → (v : What) × ConnIs sessions seats graves d.server d.id v
