@@ -1,14 +1,20 @@
 -- At the end of a course, where nothing is left and each buried link is told: the records are true, and their ranges tile.
-use Rattle.std.proofs.Common.{◌≡◌, ⊎_elim, inl, inr, ℕ, Bool, true, false, List, [], length, refl, sym, ap, ◌∙◌, subst, Option, Some, None}
-use Rattle.std.specs.Prelude.{IfSome, All, Contains}
+use Rattle.std.proofs.Common.{◌≡◌, ⊎_elim, inl, inr, ℕ, Bool, true, false, List, [], length, refl, sym, ap, ◌∙◌, subst, Option, Some, None, ◌≤◌, IsSome}
+use Rattle.std.specs.Prelude.{slice_get, IfSome, All, Contains}
 use Rattle.std.proofs.lemmas.List.Elements.{All-weaker, All-contains_itself}
+use Rattle.hx_base.specs.declared.numbers.ConnId.{ConnId}
+use Rattle.hx_base.specs.declared.numbers.PlaceNo.{PlaceNo}
+use Rattle.hx_base.specs.declared.numbers.ServerNo.{ServerNo}
 use Rattle.hx_base.specs.declared.numbers.SessionNo.{SessionNo}
 use Rattle.hx_base.specs.declared.numbers.ThreadNo.{ThreadNo}
 use Rattle.hx_base.specs.declared.what.LinkTold.{LinkTold}
 use Rattle.hx_base.specs.declared.what.What.{What}
 use Rattle.hx_conn.specs.WhatTold.{told_of, what_of_link}
-use Rattle.hx_link.specs.Nets.{NetState}
+use Rattle.hx_link.specs.Nets.{DialTold, NetState}
 use Rattle.hx_link.specs.Told.{LinkState}
+use Rattle.hx_pool.specs.History.{table_after}
+use Rattle.hx_pool.specs.SeatView.{History}
+use Rattle.hx_pool.specs.Table.{Table, HeldBy, IdleAt, Closed}
 use Rattle.hx_record.specs.Carriage.{client_carriage, conn_carriage}
 use Rattle.hx_record.specs.Tiles.{TilesClient, TilesConn}
 use Rattle.hx_record.proofs.Following.{conn_tiles}
@@ -26,12 +32,14 @@ use Rattle.hx_script.specs.TrueTranscript.{Ends, HasClient, HasConn, IsTrueKind,
 use Rattle.hx_script.specs.declared.transcript.Transcript.{Transcript}
 use Rattle.hx_connecting.specs.Sessions.{SessionNow}
 use Rattle.hx_session.specs.Records.{carriage_of}
-use Rattle.hx_worker.specs.Workers.{WorkerNow, session_of}
+use Rattle.hx_worker.specs.Workers.{WorkerNow, HasSeats, session_of}
 use Rattle.hx_course.specs.Courses.{KeepsCourse}
 use Rattle.hx_course.specs.Endings.{TellsClient, TellsConn, TellsGraves, IsEmptied}
 use Rattle.hx_course.specs.Graves.{Grave, OfClient, grave}
-use Rattle.hx_course.specs.Places.{ClientIs, IsInGrave, ConnIs}
-use Rattle.hx_course.proofs.ConnLines.{some_is_there}
+use Rattle.hx_course.specs.Places.{ClientIs, IsInGrave, ConnIs, IsHeld, IsAtRest}
+use Rattle.hx_course.proofs.ConnLines.{is_some, some_is_there}
+use Rattle.hx_course.proofs.ConnLemmas.{held_in}
+use Rattle.hx_course.proofs.Numbers.{some_is}
 use Rattle.hx_course.specs.Truths.{left_open, WhereBoth, IsTrueOpen, IsTrueEnded, PassedNow, CutNow, OwnNow, IsTrueNow}
 
 -- ---- what the links tell
@@ -172,3 +180,47 @@ module _ (w : WorkerNow) (net : NetState) (graves : List Grave) (t : Transcript)
   -- the exchanges of each connection that is told tile its bytes
   pub conns_end : All (TilesConn t.records) t.conns
   conns_end = All-weaker (Contains t.conns) (TilesConn t.records) conn_tiled t.conns (All-contains_itself t.conns)
+
+  -- each connection that was dialled is told
+  pub dials_end : (dials : List DialTold) → net.dials ≡ Some dials → (d : DialTold) → Contains dials d → d.answered ≡ true → (c : ConnBytes) × Contains t.conns c × (c.server ≡ d.server) × (c.id ≡ d.id)
+  dials_end dials told d there answered =
+      let p = keeps.dials dials told d there answered in
+      let g = conn_buried d.server d.id p.0 p.1 in
+      let k = tells.conns d.server d.id g.link g.there in
+      (k.0, k.1, k.2.server_is, k.2.id_is)
+
+  -- and so is the client of each session
+  pub sessions_end : (n : SessionNo) → 1 ≤ n.0 → n.0 ≤ w.last → (c : ClientBytes) × Contains t.clients c × (c.worker ≡ w.thread) × (c.session ≡ n)
+  sessions_end n low high = ⊎_elim
+      (λ (is : IsSome (session_of w.sessions n.0)). let s = is_some (session_of w.sessions n.0) is in absurd (none_there w.sessions n.0 s.0 empty.sessions s.1))
+      (λ (b : (l : LinkState) × Contains graves (grave (OfClient w.thread n) l)). let k = tells.clients w.thread n b.0 b.1 in (k.0, k.1, k.2.worker, k.2.session))
+      (keeps.owners.each n low high)
+
+-- ---- places
+
+both_closed : (T : Table) (i : ℕ) (place : PlaceNo) → T.conns i ≡ IdleAt place → T.conns i ≡ Closed → ⊥
+both_closed T i place a b = let e = sym a ∙ b in cc
+
+both_held : (T : Table) (i : ℕ) (u : ThreadNo) (m : SessionNo) (place : PlaceNo) → T.conns i ≡ IdleAt place → T.conns i ≡ HeldBy u m → ⊥
+both_held T i u m place a b = let e = sym a ∙ b in cc
+
+held_closed : (T : Table) (i : ℕ) (u : ThreadNo) (m : SessionNo) → T.conns i ≡ Closed → T.conns i ≡ HeldBy u m → ⊥
+held_closed T i u m a b = let e = sym a ∙ b in cc
+
+module _ (w : WorkerNow) (net : NetState) (records : List Told) (graves : List Grave) (seats : HasSeats w) (keeps : KeepsCourse w net records graves) (server : ServerNo) (id : ConnId) where
+  held_there : (v : What) → (h : IsHeld w.sessions server id v) → (k : History) → slice_get w.seats server.0 ≡ Some k → (table_after k.seen).conns id.0 ≡ HeldBy k.about.thread h.session.number
+  held_there v h k at =
+      ap (λ (n : ConnId). (table_after k.seen).conns n.0) (sym h.number)
+      ∙ held_in w.seats w.sessions seats.owns seats.one h.session h.conn h.there h.has k (ap (λ (n : ServerNo). slice_get w.seats n.0) h.to ∙ at)
+
+  -- no connection is at two places
+  pub places_apart : (u v : What) → (IsHeld w.sessions server id u → IsAtRest w.seats server id v → ⊥) × (IsHeld w.sessions server id u → IsInGrave graves server id v → ⊥)
+      × (IsAtRest w.seats server id u → IsInGrave graves server id v → ⊥)
+  places_apart u v = (
+    λ h r. both_held (table_after r.seat.seen) id.0 r.seat.about.thread h.session.number r.place r.rests (held_there u h r.seat r.at),
+    λ h g. let o = (keeps.conns.buried server id g.link g.there).0 in held_closed (table_after o.seat.seen) id.0 o.seat.about.thread h.session.number o.closed (held_there u h o.seat o.at),
+    λ r g.
+        let o = (keeps.conns.buried server id g.link g.there).0 in
+        let same : o.seat ≡ r.seat = some_is o.seat r.seat (sym o.at ∙ r.at) in
+        both_closed (table_after r.seat.seen) id.0 r.place r.rests (subst (λ (k : History). (table_after k.seen).conns id.0 ≡ Closed) same o.closed),
+  )

@@ -96,8 +96,11 @@ still_somewhere last ss s a graves closed rise here t w n is = dite (ℕ_discret
     by_over : (b : Bool) → a.over ≡ b → IsSomewhere (placed ss a) (graves ++ (closed ++ client_graves a.over a)) a.worker a.number
     by_over true o =
         let g = grave (OfClient a.worker a.number) a.client in
-        inr (a.client, Contains-append_right graves (closed ++ client_graves a.over a) g (Contains-append_right closed (client_graves a.over a) g
-        (subst (λ (b : Bool). Contains (client_graves b a) g) (sym o) (Contains-push [] g))))
+        inr (
+          a.client,
+          Contains-append_right graves (closed ++ client_graves a.over a) g (Contains-append_right closed (client_graves a.over a) g
+              (subst (λ (b : Bool). Contains (client_graves b a) g) (sym o) (Contains-push [] g))),
+        )
     by_over false o = inl (subst (λ (p : Option SessionNow). IsSome p) (sym (placed_same 0 last ss s a rise here ∙ ap (λ (b : Bool). if b then None else Some a) o)) refl)
 
 pub owners_go : (t : ThreadNo) (last : ℕ) (ss : List SessionNow) (s a : SessionNow) (seats seats' : List History) (served : Option Served) (left : Option Left) (records : List Told) (graves closed : List Grave)

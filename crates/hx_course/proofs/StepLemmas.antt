@@ -347,9 +347,11 @@ module _ (w w' : WorkerNow) (net net' : NetState) (n : SessionNo) (r : Step) (k 
       let v = r.4.0 in
       let place : ConnIs (placed w.sessions a) w'.seats (graves ++ more) r.0.server r.0.id v =
       touched_place w.sessions w.last s a w.seats w'.seats d.added (is_first s) net k.mid x graves (graves ++ more) keeps.owners.rise there k.step.same.worker k.step.same.number empty
-      k.step.links.touches.adds keeps.alone goes.client old_grave client_grave (touched_none d x t) some_touch r.0 r.1 v (sym (touched r.0 r.1).2 ∙ r.4.1) in
-      (v, subst (λ (n : ServerNo). ConnIs (placed w.sessions a) w'.seats (graves ++ more) n e.id v) (sym r.2)
-      (subst (λ (i : ConnId). ConnIs (placed w.sessions a) w'.seats (graves ++ more) r.0.server i v) (sym r.3) place))
+      k.step.links.touches.adds keeps.alone goes.client old_grave client_grave (touched_none d x t) some_touch r.0 r.1 v (sym (touched r.0 r.1).2 ∙ r.4.1) in (
+        v,
+        subst (λ (n : ServerNo). ConnIs (placed w.sessions a) w'.seats (graves ++ more) n e.id v) (sym r.2)
+            (subst (λ (i : ConnId). ConnIs (placed w.sessions a) w'.seats (graves ++ more) r.0.server i v) (sym r.3) place),
+      )
 
   dials_step : KeepsDials (placed w.sessions a) w'.seats (graves ++ more) net'
   dials_step = dials_on w.sessions (placed w.sessions a) w.seats w'.seats graves (graves ++ more) net net' (dialled_by d x t) links_step (headline_of_step w w' net net' n r k seats').dialled new_dial keeps.dials

@@ -1,14 +1,19 @@
 -- The laws of a course, as functions whose calls do nothing promise them.
-use Rattle.std.specs.Prelude.{◌≡◌, ℕ, List, [], ◌∷◌, ◌++◌, All, Some, None, slice_get}
+use Rattle.std.specs.Prelude.{◌≡◌, ◌≤◌, ℕ, true, List, [], ◌∷◌, ◌++◌, All, Contains, Some, None, slice_get}
+use Rattle.hx_base.specs.declared.numbers.ConnId.{ConnId}
 use Rattle.hx_base.specs.declared.numbers.Millis.{Millis}
+use Rattle.hx_base.specs.declared.numbers.ServerNo.{ServerNo}
 use Rattle.hx_base.specs.declared.numbers.SessionNo.{SessionNo}
 use Rattle.hx_base.specs.declared.numbers.ThreadNo.{ThreadNo}
 use Rattle.hx_base.specs.declared.order.Order.{Order}
+use Rattle.hx_base.specs.declared.what.What.{What}
 use Rattle.hx_config.specs.Meaning.{Meaning}
-use Rattle.hx_link.specs.Nets.{NetState, StaysTold}
+use Rattle.hx_link.specs.Nets.{DialTold, NetState, StaysTold}
 use Rattle.hx_link.specs.Told.{LinkState}
 use Rattle.hx_pool.specs.SeatView.{History}
 use Rattle.hx_record.specs.Tiles.{TilesClient, TilesConn}
+use Rattle.hx_record.specs.declared.bytes.ClientBytes.{ClientBytes}
+use Rattle.hx_record.specs.declared.bytes.ConnBytes.{ConnBytes}
 use Rattle.hx_record.specs.declared.served.Told.{Told}
 use Rattle.hx_script.specs.TrueTranscript.{Ends, IsTrueRecord}
 use Rattle.hx_script.specs.declared.transcript.Transcript.{Transcript}
@@ -27,6 +32,7 @@ use Rattle.hx_course.specs.Endings.{TellsGraves, IsEmptied}
 use Rattle.hx_course.specs.Graves.{Grave, OfNobody, grave, AreBuried}
 use Rattle.hx_course.specs.Lines.{lines_of, TellsRising}
 use Rattle.hx_course.specs.Owners.{AreInOrder}
+use Rattle.hx_course.specs.Places.{IsHeld, IsAtRest, IsInGrave}
 use Rattle.hx_course.specs.Sweeping.{sweep_graves}
 
 -- a new worker at seats of its thread alone, where nothing was seen, and a net that buried nothing: nothing was told
@@ -100,3 +106,28 @@ ClientsEndTiled = AtTheEnd (λ t ends. All (TilesClient t.records) t.clients)
 -- the exchanges of each connection follow each other from its first byte
 abbrev pub ConnsEndTiled : Type 0
 ConnsEndTiled = AtTheEnd (λ t ends. All (TilesConn t.records) t.conns)
+
+-- each connection that was dialled and could be had is told
+abbrev pub DialsEndTold : Type 0
+DialsEndTold =
+    (w : WorkerNow) (net : NetState) (graves : List Grave) (t : Transcript) (ends : Ends)
+    → KeepsCourse w net t.records graves → IsEmptied w → TellsGraves graves t ends
+    → (dials : List DialTold) → net.dials ≡ Some dials → (d : DialTold) → Contains dials d → d.answered ≡ true
+    → (c : ConnBytes) × Contains t.conns c × (c.server ≡ d.server) × (c.id ≡ d.id)
+
+-- and so is the client of each session that was admitted
+abbrev pub SessionsEndTold : Type 0
+SessionsEndTold =
+    (w : WorkerNow) (net : NetState) (graves : List Grave) (t : Transcript) (ends : Ends)
+    → KeepsCourse w net t.records graves → IsEmptied w → TellsGraves graves t ends
+    → (n : SessionNo) → 1 ≤ n.0 → n.0 ≤ w.last
+    → (c : ClientBytes) × Contains t.clients c × (c.worker ≡ w.thread) × (c.session ≡ n)
+
+-- a connection that a session has, one that rests and one whose link was buried are three
+abbrev pub PlacesAreApart : Type 0
+PlacesAreApart =
+    (w : WorkerNow) (net : NetState) (records : List Told) (graves : List Grave) → HasSeats w
+    → KeepsCourse w net records graves → (server : ServerNo) (id : ConnId) (u v : What)
+    → (IsHeld w.sessions server id u → IsAtRest w.seats server id v → ⊥)
+    × (IsHeld w.sessions server id u → IsInGrave graves server id v → ⊥)
+    × (IsAtRest w.seats server id u → IsInGrave graves server id v → ⊥)

@@ -1,4 +1,5 @@
 use Rattle.hx_course.proofs.CallLemmas.{course_begin, course_admit, course_turned, course_tick, course_order}
+use Rattle.hx_course.proofs.EndLemmas.{places_apart}
 use Rattle.hx_course.proofs.StepLemmas.{course_step}
 use Rattle.hx_course.proofs.StopLemmas.{course_stop}
 use Rattle.hx_course.proofs.calls_keep_courses.Goals as goal
@@ -23,3 +24,6 @@ returns-clause-ticks c = course_tick
 
 pub returns-clause-orders : goal.returns-clause-orders
 returns-clause-orders c = course_order
+
+pub returns-clause-places : goal.returns-clause-places
+returns-clause-places c = places_apart
