@@ -199,7 +199,7 @@ what_entry i T w (Round t k old) more a = (refl, rest (is_mark (Round t k old)) 
     rest true p = p.1
     rest false p = p
 
-what_along : (i : ℕ) (T : Table) (es : List Note) → NoParks (marks_of es) → (table_from T es).whats i ≡ T.whats i
+pub what_along : (i : ℕ) (T : Table) (es : List Note) → NoParks (marks_of es) → (table_from T es).whats i ≡ T.whats i
 what_along i T [] a = refl
 what_along i T (x ∷ xs) a = let r = what_entry i T x.what x.entry (marks_of xs) a in what_along i (after T x) xs r.1 ∙ r.0
 
@@ -207,11 +207,11 @@ parks_first : (xs ys : List Entry) → NoParks (xs ++ ys) → NoParks xs
 parks_first [] ys a = tt
 parks_first (x ∷ xs) ys a = (a.0, parks_first xs ys a.1)
 
-parks_both : (xs ys : List Entry) → NoParks xs → NoParks ys → NoParks (xs ++ ys)
+pub parks_both : (xs ys : List Entry) → NoParks xs → NoParks ys → NoParks (xs ++ ys)
 parks_both [] ys a b = b
 parks_both (x ∷ xs) ys a b = (a.0, parks_both xs ys a.1 b)
 
-sweep_parks : (t : ThreadNo) (swept : List Swept) → NoParks (sweep_marks t swept)
+pub sweep_parks : (t : ThreadNo) (swept : List Swept) → NoParks (sweep_marks t swept)
 sweep_parks t [] = tt
 sweep_parks t (x ∷ swept) = (tt, (tt, sweep_parks t swept))
 
@@ -492,7 +492,7 @@ idle_entry i place T w (Gate t draining) more a h = h
 idle_entry i place T w (SetGate t draining) more a h = h
 idle_entry i place T w (Round t k old) more a h = h
 
-idle_before : (i : ℕ) (place : PlaceNo) (T : Table) (es : List Note) → NoParks (marks_of es) → (table_from T es).conns i ≡ IdleAt place → T.conns i ≡ IdleAt place
+pub idle_before : (i : ℕ) (place : PlaceNo) (T : Table) (es : List Note) → NoParks (marks_of es) → (table_from T es).conns i ≡ IdleAt place → T.conns i ≡ IdleAt place
 idle_before i place T [] a h = h
 idle_before i place T (x ∷ xs) a h =
     idle_entry i place T x.what x.entry (marks_of xs) a (idle_before i place (after T x) xs (what_entry i T x.what x.entry (marks_of xs) a).1 h)
@@ -558,13 +558,13 @@ swept_closed old new es swept m one marks id l o =
     ap (λ (n : ConnId). (table_after new.seen).conns n.0) (sym o.id_is) ∙ (ap (λ (S : Table). S.conns o.x.face.id.0) (table_alone old new es m one) ∙ closed)
 
 -- a seat after the call, that before it, and its sweep
-record SweptBack (P : ℕ → History → History → Sweep → Type 0) (i : ℕ) (old : List History) (k : ℕ) (h : History) : Type 0 where
-  seat : History
-  sweep : Sweep
-  at : slice_get old k ≡ Some seat
-  does : P (i + k) seat h sweep
+pub record SweptBack (P : ℕ → History → History → Sweep → Type 0) (i : ℕ) (old : List History) (k : ℕ) (h : History) : Type 0 where
+  pub seat : History
+  pub sweep : Sweep
+  pub at : slice_get old k ≡ Some seat
+  pub does : P (i + k) seat h sweep
 
-sweep_back : (P : ℕ → History → History → Sweep → Type 0) (i : ℕ) (old new : List History) (sweeps : List Sweep) (k : ℕ) (h : History) → EachSweep P i old new sweeps → slice_get new k ≡ Some h
+pub sweep_back : (P : ℕ → History → History → Sweep → Type 0) (i : ℕ) (old new : List History) (sweeps : List Sweep) (k : ℕ) (h : History) → EachSweep P i old new sweeps → slice_get new k ≡ Some h
     → SweptBack P i old k h
 sweep_back P i [] [] [] k h a e = cc
 sweep_back P i [] [] (x ∷ sweeps) k h a e = absurd a

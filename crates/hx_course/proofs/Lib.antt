@@ -13,3 +13,4 @@ pub mod StopLemmas
 pub mod CareLemmas
 pub mod CallLemmas
 pub mod EndLemmas
+pub mod DrainLemmas

@@ -6,6 +6,7 @@ use Rattle.hx_base.specs.declared.numbers.ServerNo.{ServerNo}
 use Rattle.hx_base.specs.declared.numbers.SessionNo.{SessionNo}
 use Rattle.hx_base.specs.declared.numbers.ThreadNo.{ThreadNo}
 use Rattle.hx_base.specs.declared.order.Order.{Order}
+use Rattle.hx_base.specs.declared.order.Order.TheVariants.{Drain}
 use Rattle.hx_base.specs.declared.what.What.{What}
 use Rattle.hx_config.specs.Meaning.{Meaning}
 use Rattle.hx_link.specs.Nets.{DialTold, NetState, StaysTold}
@@ -131,3 +132,24 @@ PlacesAreApart =
     → (IsHeld w.sessions server id u → IsAtRest w.seats server id v → ⊥)
     × (IsHeld w.sessions server id u → IsInGrave graves server id v → ⊥)
     × (IsAtRest w.seats server id u → IsInGrave graves server id v → ⊥)
+
+-- behind an order to drain nothing rests at its server
+abbrev pub DrainsEmpty : Type 0
+DrainsEmpty =
+    (w w' : WorkerNow) (net net' : NetState) (server : ServerNo) (count : ℕ)
+    → CarriesOut w w' net net' (Drain server) count → AreAlone w.seats → (id : ConnId) (v : What)
+    → IsAtRest w'.seats server id v → ⊥
+
+-- what rests behind an order rested before it
+abbrev pub OrdersRested : Type 0
+OrdersRested =
+    (w w' : WorkerNow) (net net' : NetState) (what : Order) (count : ℕ) → CarriesOut w w' net net' what count
+    → AreAlone w.seats → (server : ServerNo) (id : ConnId) (v : What)
+    → IsAtRest w'.seats server id v → IsAtRest w.seats server id v
+
+-- and the same of a round of the caretaker
+abbrev pub TicksRested : Type 0
+TicksRested =
+    (w w' : WorkerNow) (net net' : NetState) (now : Millis) (count : ℕ) → TicksAll w w' net net' now count
+    → AreAlone w.seats → (server : ServerNo) (id : ConnId) (v : What)
+    → IsAtRest w'.seats server id v → IsAtRest w.seats server id v

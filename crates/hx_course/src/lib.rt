@@ -1,7 +1,7 @@
 //! What a worker's calls keep, over a whole course of them, of what its sessions told. Laws, whose calls do nothing.
 #![tactic(auto)]
 
-ghost use Rattle.hx_course.specs.Laws.{CoursesBegin, AdmitsKeep, TurnedKeep, StepsKeep, StopsKeep, TicksKeep, OrdersKeep, RecordsEndTrue, ClientsEndTiled, ConnsEndTiled, DialsEndTold, SessionsEndTold, PlacesAreApart};
+ghost use Rattle.hx_course.specs.Laws.{CoursesBegin, AdmitsKeep, TurnedKeep, StepsKeep, StopsKeep, TicksKeep, OrdersKeep, RecordsEndTrue, ClientsEndTiled, ConnsEndTiled, DialsEndTold, SessionsEndTold, PlacesAreApart, DrainsEmpty, OrdersRested, TicksRested};
 
 /// A course begins with nothing told, and each call of the worker keeps what holds of it.
 pub fn calls_keep_courses()
@@ -22,4 +22,11 @@ pub fn courses_end_true()
     ensures conns { ConnsEndTiled }
     ensures dials { DialsEndTold }
     ensures sessions { SessionsEndTold }
+{}
+
+/// The caretaker brings nothing to rest, and behind an order to drain nothing rests at its server.
+pub fn drains_empty()
+    ensures drains { DrainsEmpty }
+    ensures orders { OrdersRested }
+    ensures ticks { TicksRested }
 {}
