@@ -46,7 +46,7 @@ use Rattle.hx_course.specs.Graves.{Grave, OfClient, OfConn, grave, links_of, Are
 use Rattle.hx_course.specs.Lines.{served_line, left_line, lines_of}
 use Rattle.hx_course.specs.Owners.{AreInOrder, KeepsOwners}
 use Rattle.hx_course.proofs.DialLemmas.{dials_on, step_dialled}
-use Rattle.hx_course.specs.Places.{ConnIs, KeepsDials, LinksGoOn}
+use Rattle.hx_course.specs.Places.{ConnIs, KeepsDials, LinksGoOn, BytesGrow}
 use Rattle.hx_course.specs.Truths.{IsTrueOpen, IsTrueNow, KeepsTruth}
 use Rattle.hx_course.proofs.ClientLemmas.{clients_go, not_conn}
 use Rattle.hx_course.proofs.ConnLemmas.{its_record, held_in, conns_go}
@@ -54,7 +54,7 @@ use Rattle.hx_course.proofs.GoingLemmas.{touched_place, links_on, record_now}
 use Rattle.hx_course.proofs.Numbers.{some_is, found_number}
 use Rattle.hx_course.proofs.OwnerLemmas.{conn_clients, conn_dials, order_after, owners_go}
 use Rattle.hx_course.proofs.TableLemmas.{none_in, one_in}
-use Rattle.hx_course.proofs.TruthLemmas.{passed_open, truth_on}
+use Rattle.hx_course.proofs.TruthLemmas.{passed_open, truth_on, link_grows}
 
 -- ---- graves and burials
 
@@ -275,6 +275,12 @@ module _ (w w' : WorkerNow) (net net' : NetState) (n : SessionNo) (r : Step) (k 
   there : session_of w.sessions s.number.0 ≡ Some s
   there = ap (session_of w.sessions) (found_number w.sessions n.0 s k.there) ∙ k.there
 
+  worker : a.worker ≡ s.worker
+  worker = k.step.same.worker
+
+  number : a.number ≡ s.number
+  number = k.step.same.number
+
   its : s.worker ≡ w.thread
   its = keeps.owners.its s.number.0 s there
 
@@ -300,18 +306,21 @@ module _ (w w' : WorkerNow) (net net' : NetState) (n : SessionNo) (r : Step) (k 
   empty : a.over ≡ true → a.conn ≡ None
   empty = empty_over a r.left k.step.tells.leaves
 
+  client_grows : BytesGrow (what_of_link s.client) (what_of_link a.client)
+  client_grows = link_grows (what_of_link s.client) (what_of_link a.client) goes.client.link
+
   -- each link goes on
   pub links_step : LinksGoOn w.sessions (placed w.sessions a) w.seats w'.seats graves (graves ++ more)
-  links_step = links_on w.sessions w.last s a w.seats w'.seats d.added (is_first s) net k.mid x graves (graves ++ more) keeps.owners.rise there k.step.same.worker k.step.same.number empty
-      k.step.links.touches.adds keeps.alone goes.client old_grave client_grave (touched_none d x t) some_touch
+  links_step = links_on w.sessions w.last s a w.seats w'.seats d.added (is_first s) net k.mid x graves (graves ++ more) keeps.owners.rise there worker number empty
+      k.step.links.touches.adds keeps.alone client_grows old_grave client_grave (touched_none d x t) some_touch
 
   new_record : (v : Served) → r.served ≡ Some v → IsTrueNow (placed w.sessions a) w'.seats (records ++ lines) (graves ++ more) v v.kind
   unfolding some_touch touched
   new_record v e =
       let told : RecordsTold s a (after_of d x t) r.left (Some v) = subst (λ (o : Option Served). RecordsTold s a (after_of d x t) r.left o) e k.step.links.records in
       subst (λ (o : Option Served). IsTrueNow (placed w.sessions a) w'.seats (records ++ lines_of o r.left) (graves ++ more) v v.kind) (sym e)
-      (record_now w.sessions w.last s a w.seats w'.seats d.added (is_first s) net k.mid x graves (graves ++ more) keeps.owners.rise there k.step.same.worker k.step.same.number empty
-      k.step.links.touches.adds keeps.alone goes.client old_grave client_grave (touched_none d x t) some_touch
+      (record_now w.sessions w.last s a w.seats w'.seats d.added (is_first s) net k.mid x graves (graves ++ more) keeps.owners.rise there worker number empty
+      k.step.links.touches.adds keeps.alone client_grows old_grave client_grave (touched_none d x t) some_touch
       records (after_of d x t) r.left v told k.step.tells.leaves (own_none d x t v e) (λ y f. (touched y f).2)
       (ends_some d x t v e (subst (λ (o : Option Served). IfSome o (λ q. IsOfMethod s a.client (after_of d x t) q q.kind)) e goes.method)))
 
@@ -320,7 +329,7 @@ module _ (w w' : WorkerNow) (net net' : NetState) (n : SessionNo) (r : Step) (k 
       (truth_on w.sessions (placed w.sessions a) w.seats w'.seats graves (graves ++ more) links_step records lines keeps.truth) new_record
 
   clients_step : KeepsClients w.thread w.last (placed w.sessions a) (records ++ lines) (graves ++ more)
-  clients_step = clients_go w.thread w.last w.sessions s a (after_of d x t) r.served r.left records graves closed (step_no_client d x t) keeps.owners.rise its there k.step.same.worker k.step.same.number
+  clients_step = clients_go w.thread w.last w.sessions s a (after_of d x t) r.served r.left records graves closed (step_no_client d x t) keeps.owners.rise its there worker number
       k.step.links.records k.step.tells.leaves goes.rises keeps.clients
 
   new_grave : (server : ServerNo) (id : ConnId) (l : LinkState) → Contains (graves ++ more) (grave (OfConn server id) l)
@@ -336,7 +345,7 @@ module _ (w w' : WorkerNow) (net net' : NetState) (n : SessionNo) (r : Step) (k 
       (Contains-append_cases graves (closed ++ client_graves a.over a) g c)
 
   conns_step : KeepsConns (placed w.sessions a) w'.seats (records ++ lines) (graves ++ more)
-  conns_step = conns_go w.sessions w.last s a w.seats w'.seats d.added (is_first s) net k.mid x graves (graves ++ more) records r.served r.left keeps.owners.rise there k.step.same.worker k.step.same.number empty
+  conns_step = conns_go w.sessions w.last s a w.seats w'.seats d.added (is_first s) net k.mid x graves (graves ++ more) records r.served r.left keeps.owners.rise there worker number empty
       k.step.links.touches.adds keeps.alone (its_record s a (after_of d x t) r.left r.served k.step.links.records) (own_all d x t) (touched_none d x t) (λ y e. (touched y e).0)
       (λ y e. (touched y e).4) (λ y e. (touched y e).5) goes.conn goes.rises.record_rises new_grave (held_in w.seats w.sessions seats.owns seats.one) keeps.conns
 
@@ -346,8 +355,8 @@ module _ (w w' : WorkerNow) (net net' : NetState) (n : SessionNo) (r : Step) (k 
       let r = step_dialled d x t e c answered in
       let v = r.4.0 in
       let place : ConnIs (placed w.sessions a) w'.seats (graves ++ more) r.0.server r.0.id v =
-      touched_place w.sessions w.last s a w.seats w'.seats d.added (is_first s) net k.mid x graves (graves ++ more) keeps.owners.rise there k.step.same.worker k.step.same.number empty
-      k.step.links.touches.adds keeps.alone goes.client old_grave client_grave (touched_none d x t) some_touch r.0 r.1 v (sym (touched r.0 r.1).2 ∙ r.4.1) in (
+      touched_place w.sessions w.last s a w.seats w'.seats d.added (is_first s) net k.mid x graves (graves ++ more) keeps.owners.rise there worker number empty
+      k.step.links.touches.adds keeps.alone client_grows old_grave client_grave (touched_none d x t) some_touch r.0 r.1 v (sym (touched r.0 r.1).2 ∙ r.4.1) in (
         v,
         subst (λ (n : ServerNo). ConnIs (placed w.sessions a) w'.seats (graves ++ more) n e.id v) (sym r.2)
             (subst (λ (i : ConnId). ConnIs (placed w.sessions a) w'.seats (graves ++ more) r.0.server i v) (sym r.3) place),
@@ -368,7 +377,7 @@ module _ (w w' : WorkerNow) (net net' : NetState) (n : SessionNo) (r : Step) (k 
     owners = subst (λ (th : ThreadNo). KeepsOwners th w'.last w'.sessions w'.seats (records ++ lines) (graves ++ more)) (sym k.stays.thread)
         (subst (λ (m : ℕ). KeepsOwners w.thread m w'.sessions w'.seats (records ++ lines) (graves ++ more)) (sym k.stays.last)
         (subst (λ (ss : List SessionNow). KeepsOwners w.thread w.last ss w'.seats (records ++ lines) (graves ++ more)) (sym k.sessions)
-        (owners_go w.thread w.last w.sessions s a w.seats w'.seats r.served r.left records graves closed there k.step.same.worker k.step.same.number goes.dial k.step.tells.leaves
+        (owners_go w.thread w.last w.sessions s a w.seats w'.seats r.served r.left records graves closed there worker number goes.client.dial k.step.tells.leaves
         (step_clients d x t) (step_dials d x t)
         (in_order (HasMarks s.worker s.number (is_first s) x) w.seats w'.seats d.added k.step.links.touches.adds keeps.owners.order) keeps.owners)));
     dials = subst (λ (ss : List SessionNow). KeepsDials ss w'.seats (graves ++ more) net') (sym k.sessions) dials_step;
