@@ -1,5 +1,5 @@
 -- What a caller learns of each call on a connection.
-use Rattle.std.specs.Prelude.{◌≡◌, ℕ, ◌+◌, ◌≤◌, Bool, true, false, ◌||◌, List, Option, Some, None, IfSome}
+use Rattle.std.specs.Prelude.{◌≡◌, ℕ, ◌+◌, ◌≤◌, Bool, true, false, ◌||◌, List, length, Option, Some, None, IfSome}
 use Rattle.hx_base.specs.declared.numbers.ConnId.{ConnId}
 use Rattle.hx_message.specs.declared.MethodKind.{MethodKind}
 use Rattle.hx_message.specs.Message.{IsWholeAnswer, Persists}
@@ -25,6 +25,7 @@ use Rattle.hx_conn.specs.Conns.{RestedNow, BusyNow, answered}
 pub record Probes (r : RestedNow) (now : ℕ) (link : LinkState) (cause : Option Death) : Type 0 where
   pub answer : Got
   pub byte : List ℕ
+  pub one : length byte ≡ 1
   pub fits : GotFits answer 1
   pub reads : LinkReads r.link link now answer byte
   pub tells : cause ≡ death_of answer

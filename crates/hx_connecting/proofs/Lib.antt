@@ -7,6 +7,7 @@ pub mod WantLemmas
 pub mod WayLemmas
 pub mod WayStays
 pub mod NetLemmas
+pub mod CauseLemmas
 pub mod TouchedCalls
 pub mod WayCalls
 pub mod TouchLemmas

@@ -1,7 +1,6 @@
 -- What a net keeps through calls, and what it buries.
-use Rattle.std.proofs.Common.{◌≡◌, ◌≤◌, ℕ, Bool, true, false, List, [], ◌∷◌, ◌++◌, refl, sym, ap, subst, ◌∙◌, inl, inr, arith, Option, Some, None, ⊎_elim, append_assoc}
+use Rattle.std.proofs.Common.{◌≡◌, ◌≤◌, Bool, true, false, List, [], ◌∷◌, ◌++◌, refl, sym, ap, subst, ◌∙◌, inl, inr, arith, Option, Some, None, ⊎_elim, append_assoc}
 use Rattle.std.specs.Prelude.{IfSome, option_map, option_to_list}
-use Rattle.hx_base.specs.Counts.{Rose}
 use Rattle.hx_base.specs.declared.numbers.ThreadNo.{ThreadNo}
 use Rattle.hx_base.specs.declared.numbers.SessionNo.{SessionNo}
 use Rattle.hx_base.specs.declared.what.What.{What}
@@ -11,6 +10,9 @@ use Rattle.hx_link.specs.Nets.{NetState, NetBuries, OnlyFaults, DialTold, told_d
 use Rattle.hx_pool.specs.declared.entries.Note.{Note}
 use Rattle.hx_pool.specs.SeatView.{History}
 use Rattle.hx_record.specs.declared.served.Served.{Served}
+use Rattle.hx_connecting.specs.Closings.{ClosesFor, call_of}
+use Rattle.hx_connecting.specs.Outcomes.{Outcome}
+use Rattle.hx_connecting.proofs.CauseLemmas.{causes_on, cause_faults, rose_on}
 use Rattle.hx_connecting.specs.Links.{GainsAll, CourseStays, LeavesPlans, DialFollows, DialsFor, plans_of}
 use Rattle.hx_connecting.specs.Sessions.{Holding}
 use Rattle.hx_connecting.specs.Touches.{Touch, Came, Had, Opened, Took}
@@ -86,9 +88,6 @@ ends_before a b c l x y = record {
   faults = omega (arith, x.faults, y.faults);
 }
 
-rose_on : (a b c : ℕ) → Rose a b → b ≤ c → Rose a c
-rose_on a b c r le = omega (arith, r, le)
-
 -- a way, and then a fault of the net or none
 follows_on : (x : Touch) (c : Course) (new new' : NetState) (answered : Bool) (w : Option What) → new'.dials ≡ new.dials → DialFollows x c new answered w → DialFollows x c new' answered w
 follows_on x c new new' true w e f = f
@@ -114,11 +113,11 @@ dials_on x Opened old new new' w k (answered, tag, gains, follows, leaves, end) 
       ⊎_elim (λ z. inl z) (λ z. inr (z.0, z.1, rose_on old.faults new.faults new'.faults z.2 k.1)) end,
     )
 
-pub way_faults : (t : ThreadNo) (n : SessionNo) (c c' : Option Holding) (h : History) (es : List Note) (old new new' : NetState) (x : Touch) (served : Option Served) → OnlyFaults new new'
-    → WayOf t n c c' h es old new x served → WayOf t n c c' h es old new' x served
-way_faults t n c c' h es old new new' x served k way = λ s s' was is by named.
-    let z = way s s' was is by named in
-    let g = z.0 in (
+pub way_faults : (t : ThreadNo) (n : SessionNo) (c c' : Option Holding) (z : Outcome) (h : History) (es : List Note) (old new new' : NetState) (x : Touch) (served : Option Served) → OnlyFaults new new'
+    → WayOf t n c c' z h es old new x served → WayOf t n c c' z h es old new' x served
+way_faults t n c c' z h es old new new' x served k way = λ s s' was is by named.
+    let y = way s s' was is by named in
+    let g = y.0 in (
       record {
         before = g.before;
         after = g.after;
@@ -129,18 +128,21 @@ way_faults t n c c' h es old new new' x served k way = λ s s' was is by named.
         dials = dials_on x x.came old new new' g.after k g.dials;
         buries = subst (λ (o : Option (List LinkState)). GainsAll (option_to_list g.gone) old.buried o) (sym (ap (λ (s : NetState). s.buried) k.0)) g.buries;
       },
-      z.1,
-      z.2,
+      y.1,
+      y.2,
+      λ closed left number comes.
+          causes_on (λ m id b. ClosesFor (call_of s s' old new h b x g.before g.after served left)) (λ m id b. ClosesFor (call_of s s' old new' h b x g.before g.after served left))
+          (λ m id b. cause_faults s s' old new new' h b x g.before g.after served left k.1) [] es (y.3 closed left number comes),
     )
 
-pub for_faults : (t : ThreadNo) (n : SessionNo) (c c' : Option Holding) (news : List History) (added : List (List Note)) (old new new' : NetState) (x : Option Touch) (served : Option Served) → OnlyFaults new new'
-    → WayFor t n c c' news added old new x served → WayFor t n c c' news added old new' x served
-for_faults t n c c' news added old new new' None served k way = (way.0, net_then old new new' way.1 (net_faults new new' k))
-for_faults t n c c' news added old new new' (Some x) served k way = record {
+pub for_faults : (t : ThreadNo) (n : SessionNo) (c c' : Option Holding) (z : Outcome) (news : List History) (added : List (List Note)) (old new new' : NetState) (x : Option Touch) (served : Option Served) → OnlyFaults new new'
+    → WayFor t n c c' z news added old new x served → WayFor t n c c' z news added old new' x served
+for_faults t n c c' z news added old new new' None served k way = (way.0, net_then old new new' way.1 (net_faults new new' k))
+for_faults t n c c' z news added old new new' (Some x) served k way = record {
   history = way.history;
   es = way.es;
   seat = way.seat;
   entries = way.entries;
   faults = omega (arith, way.faults, k.1);
-  way = way_faults t n c c' way.history way.es old new new' x served k way.way;
+  way = way_faults t n c c' z way.history way.es old new new' x served k way.way;
 }

@@ -34,6 +34,9 @@ use Rattle.hx_connecting.specs.declared.connecting.Connected.{Connected}
 use Rattle.hx_connecting.specs.declared.connecting.Connected.TheVariants.{Begun, Dead, Refused}
 use Rattle.hx_connecting.specs.Connecting.{FindsOne, FindsNone, TriesRested, TriesNew, Connects}
 use Rattle.hx_connecting.specs.Touches.{IsOf, AllOf, Balances, Opened, Took, Stays, Ends}
+use Rattle.hx_base.specs.Counts.{Rose}
+use Rattle.hx_connecting.specs.Closings.{ClosesFor, call_of, ended_at_rest, dial_failed}
+use Rattle.hx_connecting.proofs.CauseLemmas.{causes_always, dead_cause, rose_on}
 use Rattle.hx_connecting.specs.Touched.{Marked, SeatMarks, ConnectTouches}
 
 own_both : (n : SessionNo) (xs ys : List Note) → AllOf n xs → AllOf n ys → AllOf n (xs ++ ys)
@@ -195,6 +198,7 @@ rested_touch old mid new n first server r now m net net' (Begun busy fresh) here
           buries = gains_eq net.buried net'.buried (ap (λ (q : NetState). q.buried) k.2.2.0.0.0);
         },
         λ served. (Exchanging busy, has, took_goes r k.2.0 now m net net' busy rested k.2.1 k.2.2),
+        λ q z served closed. absurd closed,
       );
     }
 rested_touch old mid new n first server r now m net net' Dead here rested f k =
@@ -228,6 +232,9 @@ rested_touch old mid new n first server r now m net net' Dead here rested f k =
           buries = bury_gains net.buried k.0.buried net'.buried k.1 dies.buried buried.3;
         },
         λ served. tt,
+        λ q z served closed left named comes.
+            causes_always (λ y id b. ClosesFor (call_of s s' net net' new b (record { server = server; id = r.id; came = Took at.place r.uses; went = Ends }) (Some (what_of_link r.link)) (Some (what_of_link k.1)) served left))
+            (λ y id b. ended_at_rest (inr (at.place, r.uses, refl)) (dead_cause r now k.1 net k.0 net' k.2 buried.1)) [] es,
       );
     }
 rested_touch old mid new n first server r now m net net' Refused here rested f k = absurd k
@@ -278,6 +285,7 @@ new_touch old mid new n first server m net net' (Begun busy fresh) f k =
             taken_from = ap (λ (b : BusyNow). b.exchange.taken_from) o.begins.1 ∙ d.fresh.fresh.taken_count;
           },
         ),
+        λ q z served closed. absurd closed,
       );
     }
 new_touch old mid new n first server m net net' Dead f k = absurd k
@@ -319,6 +327,9 @@ new_touch old mid new n first server m net net' Refused f k = ⊎_elim
           buries = gains_stay net.buried net'.buried d.buried;
         },
         λ served. tt,
+        λ q w served closed left named comes.
+            causes_always (λ y i b. ClosesFor (call_of s s' net net' new b (record { server = server; id = id; came = Opened; went = Ends }) None None served left))
+            (λ y i b. dial_failed refl d.fault.1) [] es,
       );
     })
     (λ y. let link = y.0 in let net1 = y.1 in let net2 = y.2 in let d = y.4 in let dead = y.5 in let b = y.6.buries in record {
@@ -346,6 +357,10 @@ new_touch old mid new n first server m net net' Refused f k = ⊎_elim
           buries = opened_buries net.buried net1.buried net2.buried net'.buried link d.buried (ap (λ (q : NetState). q.buried) dead.0.0) b.3;
         },
         λ served. tt,
+        λ q w served closed left named comes.
+            let rose : Rose net.faults net'.faults = rose_on net.faults net2.faults net'.faults (subst (λ (k : ℕ). Rose k net2.faults) (ap (λ (u : NetState). u.faults) d.net) dead.2.1) b.1 in
+            causes_always (λ v i b. ClosesFor (call_of s s' net net' new b (record { server = server; id = id; came = Opened; went = Ends }) None (Some (what_of_link link)) served left))
+            (λ v i b. dial_failed refl rose) [] es,
       );
     })
     z.3)

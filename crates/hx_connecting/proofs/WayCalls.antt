@@ -16,7 +16,13 @@ use Rattle.hx_conn.specs.WhatTold.{shown, what_of_link}
 use Rattle.hx_pool.specs.declared.entries.Entry.{Entry}
 use Rattle.hx_pool.specs.declared.entries.Entry.TheVariants.{Park}
 use Rattle.hx_pool.specs.declared.entries.Note.{Note}
-use Rattle.hx_pool.specs.SeatView.{History}
+use Rattle.hx_pool.specs.SeatView.{About, History}
+use Rattle.hx_pool.specs.History.{marks_of}
+use Rattle.hx_base.specs.declared.rules.Mode.TheVariants.{Never}
+use Rattle.hx_conn.specs.declared.causes.RestCause.{RestCause}
+use Rattle.hx_connecting.specs.Closings.{ClosesFor, call_of, ended_at_rest}
+use Rattle.hx_connecting.specs.Outcomes.{Outcome, Leaving, CloseNone}
+use Rattle.hx_connecting.proofs.CauseLemmas.{causes_always, dead_cause}
 use Rattle.hx_pool.specs.Opening.{Closes}
 use Rattle.hx_record.specs.declared.served.Served.{Served}
 use Rattle.hx_connecting.specs.declared.connecting.Connected.{Connected}
@@ -36,7 +42,7 @@ use Rattle.hx_connecting.proofs.AroundLemmas.{holds_here, numbered_here, seat_se
 use Rattle.hx_connecting.proofs.NetLemmas.{NetEnds, net_then, net_is, net_faults, net_buries, ends_after, ends_before}
 use Rattle.hx_connecting.proofs.ParkLemmas.{parks_at, refused_end}
 use Rattle.hx_connecting.proofs.TouchLemmas.{closes_seat, connects_touch}
-use Rattle.hx_connecting.proofs.TouchedCalls.{IsPassed, EndsFor, ends_way, busy_way, held_way, kept_stays, parked_way, refused_way}
+use Rattle.hx_connecting.proofs.TouchedCalls.{IsPassed, EndsFor, CauseAt, ends_way, busy_way, held_way, kept_stays, parked_way, refused_way}
 use Rattle.hx_connecting.proofs.WantedLemmas.{OpenNone, connects_wanted}
 use Rattle.hx_connecting.proofs.WayLemmas.{attach_dials, begun_same, bury_dials, bury_gains, dies_so, gains_eq, probe_counts}
 use Rattle.hx_connecting.proofs.WayStays.{stays_then, way_on, way_wider}
@@ -62,9 +68,9 @@ nothing_there (x ∷ hs) (suc j) h e = nothing_there hs j h e
 entries_at : (hs : List History) (j : ℕ) (h : History) (es : List Note) → slice_get hs j ≡ Some h → slice_get (slice_set (nothing hs) j es) j ≡ Some es
 entries_at hs j h es there = set_there (nothing hs) j [] es (nothing_there hs j h there)
 
-way_at : (t : ThreadNo) (n : SessionNo) (c c' : Option Holding) (x : Touch) (olds news : List History) (old new : History) (es : List Note) (net net' : NetState) (served : Option Served) → slice_get olds x.server.0 ≡ Some old
-    → news ≡ slice_set olds x.server.0 new → net.faults ≤ net'.faults → WayOf t n c c' new es net net' x served → WayAt t n c c' news (slice_set (nothing olds) x.server.0 es) net net' x served
-way_at t n c c' x olds news old new es net net' served there is faults way = record {
+way_at : (t : ThreadNo) (n : SessionNo) (c c' : Option Holding) (z : Outcome) (x : Touch) (olds news : List History) (old new : History) (es : List Note) (net net' : NetState) (served : Option Served) → slice_get olds x.server.0 ≡ Some old
+    → news ≡ slice_set olds x.server.0 new → net.faults ≤ net'.faults → WayOf t n c c' z new es net net' x served → WayAt t n c c' z news (slice_set (nothing olds) x.server.0 es) net net' x served
+way_at t n c c' z x olds news old new es net net' served there is faults way = record {
   history = new;
   es = es;
   seat = subst (λ (hs : List History). slice_get hs x.server.0 ≡ Some new) (sym is) (seat_set x.server.0 olds old new there);
@@ -74,10 +80,10 @@ way_at t n c c' x olds news old new es net net' served there is faults way = rec
 }
 
 -- the calls at one seat, which opened nothing
-some_at : (t : ThreadNo) (n : SessionNo) (first : Bool) (c c' d : Option Holding) (x : Touch) (olds news : List History) (old new : History) (net net' : NetState) (served : Option Served) → HasAround t n d olds
+some_at : (t : ThreadNo) (n : SessionNo) (first : Bool) (c c' d : Option Holding) (z : Outcome) (x : Touch) (olds news : List History) (old new : History) (net net' : NetState) (served : Option Served) → HasAround t n d olds
     → slice_get olds x.server.0 ≡ Some old → news ≡ slice_set olds x.server.0 new → OpenNone (touch_marks old.about.thread n first x) → (s : SeatMarks old new n (touch_marks old.about.thread n first x))
-    → net.faults ≤ net'.faults → WayOf t n c c' new s.added net net' x served → SomeWay t n first c c' olds news net net' served
-some_at t n first c c' d x olds news old new net net' served a there is none s faults way =
+    → net.faults ≤ net'.faults → WayOf t n c c' z new s.added net net' x served → SomeWay t n first c c' z olds news net net' served
+some_at t n first c c' d z x olds news old new net net' served a there is none s faults way =
     let at = holds_here t n d 0 x.server.0 olds old there a.holds in
     let es : List (List Note) = slice_set (nothing olds) x.server.0 s.added in
     record {
@@ -87,27 +93,27 @@ some_at t n first c c' d x olds news old new net net' served a there is none s f
         adds = subst (λ (hs : List History). AddsFor t n first (Some x) olds hs es) (sym is)
             (adds_touch t n first x olds old new s.added (holds_stand t n d 0 olds a.holds) there at.0 (seat_adds old new n first (touch_marks old.about.thread n first x) none s));
       };
-      way = way_at t n c c' x olds news old new s.added net net' served there is faults way;
+      way = way_at t n c c' z x olds news old new s.added net net' served there is faults way;
     }
 
 -- no call of a seat
-some_none : (t : ThreadNo) (n : SessionNo) (first : Bool) (c c' : Option Holding) (olds news : List History) (net net' : NetState) (served : Option Served) → AllStand olds → news ≡ olds → StaysWith c c' served → NetStays net net'
-    → SomeWay t n first c c' olds news net net' served
-some_none t n first c c' olds news net net' served all same stays net_stays = record {
+some_none : (t : ThreadNo) (n : SessionNo) (first : Bool) (c c' : Option Holding) (z : Outcome) (olds news : List History) (net net' : NetState) (served : Option Served) → AllStand olds → news ≡ olds → StaysWith c c' served → NetStays net net'
+    → SomeWay t n first c c' z olds news net net' served
+some_none t n first c c' z olds news net net' served all same stays net_stays = record {
   touch = None;
   at = record { added = nothing olds; adds = subst (λ (hs : List History). AddsFor t n first None olds hs (nothing olds)) (sym same) (adds_no_touch t n first olds all) };
   way = (stays, net_stays);
 }
 
 -- a connection that carries an exchange is closed
-pub busy_some : (t : ThreadNo) (n : SessionNo) (first : Bool) (b : BusyNow) (olds news : List History) (net net' : NetState) (served : Option Served) → HasAround t n (Some (Exchanging b)) olds → IsBusy b
-    → ClosesAt olds news b.server.0 n b.id net net' b.link → SomeWay t n first (Some (Exchanging b)) None olds news net net' served
-busy_some t n first b olds news net net' served a meaning k =
+pub busy_some : (t : ThreadNo) (n : SessionNo) (first : Bool) (b : BusyNow) (z : Outcome) (olds news : List History) (net net' : NetState) (served : Option Served) → HasAround t n (Some (Exchanging b)) olds → IsBusy b
+    → CauseAt n b z net net' served → ClosesAt olds news b.server.0 n b.id net net' b.link → SomeWay t n first (Some (Exchanging b)) None z olds news net net' served
+busy_some t n first b z olds news net net' served a meaning cause k =
     let x : Touch = had b.server b.id Ends in
     let s = closes_seat k.old k.new n b.id k.closed.closes in
     let ends = ends_after net k.between net' k.detached (net_faults net k.between k.detaches.0) (net_buries k.between net' k.detached k.closed.buries) in
-    some_at t n first (Some (Exchanging b)) None (Some (Exchanging b)) x olds news k.old k.new net net' served a k.was k.seats (tt, tt) s ends.faults
-    (busy_way t n b k.new s.added net k.between net' k.detached served meaning k.detaches k.closed.buries)
+    some_at t n first (Some (Exchanging b)) None (Some (Exchanging b)) z x olds news k.old k.new net net' served a k.was k.seats (tt, tt) s ends.faults
+    (busy_way t n b z k.new s.added net k.between net' k.detached served meaning k.detaches k.closed.buries cause)
 
 set_same : (olds : List History) (j : ℕ) (h : History) → slice_get olds j ≡ Some h → slice_set olds j h ≡ olds
 set_same [] j h there = cc
@@ -115,10 +121,10 @@ set_same (o ∷ olds) zero h there = ap (λ (q : History). q ∷ olds) (some_is 
 set_same (o ∷ olds) (suc j) h there = ap (λ (l : List History). o ∷ l) (set_same olds j h there)
 
 -- a connection whose exchange passed settles
-settled_way : (t : ThreadNo) (n : SessionNo) (first : Bool) (b : BusyNow) (olds news : List History) (old new : History) (net mid net' : NetState) (q : Option RestedNow) (served : Option Served)
+settled_way : (t : ThreadNo) (n : SessionNo) (first : Bool) (b : BusyNow) (z : Outcome) (olds news : List History) (old new : History) (net mid net' : NetState) (q : Option RestedNow) (served : Option Served)
     → HasAround t n (Some (Exchanging b)) olds → slice_get olds b.server.0 ≡ Some old → news ≡ slice_set olds b.server.0 new → OnlyFaults net mid → IsPassed served → EndsFor b served
-    → SettlesAs old new n (rested_of b) mid net' q → RestWay t n first (Some (Exchanging b)) olds news net net' q served
-settled_way t n first b olds news old new net mid net' (Some p) served a there is faults passed ends k =
+    → SettlesAs old new n (rested_of b) mid net' q → RestWay t n first (Some (Exchanging b)) z olds news net net' q served
+settled_way t n first b z olds news old new net mid net' (Some p) served a there is faults passed ends k =
     let same : news ≡ olds = is ∙ (ap (λ (h : History). slice_set olds b.server.0 h) k.2 ∙ set_same olds b.server.0 old there) in
     let kept : StaysWith (Some (Exchanging b)) (Some (Resting p)) served = (
       Resting p,
@@ -131,19 +137,19 @@ settled_way t n first b olds news old new net mid net' (Some p) served a there i
       at = record { added = nothing olds; adds = subst (λ (hs : List History). AddsFor t n first None olds hs (nothing olds)) (sym same) (adds_no_touch t n first olds (holds_stand t n (Some (Exchanging b)) 0 olds a.holds)) };
       way = (kept, net_then net mid net' (net_faults net mid faults) (net_is mid net' k.3));
     }
-settled_way t n first b olds news old new net mid net' None served a there is faults passed ends k =
+settled_way t n first b z olds news old new net mid net' None served a there is faults passed ends k =
     let r = rested_of b in
     let c : Option Holding = Some (Exchanging b) in
     let thread = (holds_here t n c 0 b.server.0 olds old there a.holds).0 in
-    let w : SomeWay t n first c None olds news net net' served = ⊎_elim
+    let w : SomeWay t n first c None z olds news net net' served = ⊎_elim
     (λ p.
     let at = parks_at old new n p.0 (shown r) p.1 in
     let x : Touch = had b.server b.id (Rests p.0 (b.uses + 1)) in
     let stays = net_then net mid net' (net_faults net mid faults) (net_is mid net' p.2) in
     let there : Contains at.seat.added (record { entry = Park t n b.id p.0 (b.uses + 1); what = Some (what_of_link r.link) }) =
     subst (λ (u : ThreadNo). Contains at.seat.added (record { entry = Park u n b.id p.0 (b.uses + 1); what = Some (what_of_link r.link) })) thread at.there in
-    some_at t n first c None c x olds news old new net net' served a there_was is (went_none old.about.thread n b.id (Rests p.0 (b.uses + 1))) at.seat stays.faults
-    (parked_way t n b new at.seat.added net net' p.0 served passed ends stays there))
+    some_at t n first c None c z x olds news old new net net' served a there_was is (went_none old.about.thread n b.id (Rests p.0 (b.uses + 1))) at.seat stays.faults
+    (parked_way t n b z new at.seat.added net net' p.0 served passed ends stays there))
     (λ p.
     let v = p.2 in
     let what : what_of_link v.link ≡ what_of_link r.link = ap (λ (s : Shown). s.what) p.5 in
@@ -153,8 +159,8 @@ settled_way t n first b olds news old new net mid net' None served a there is fa
     let e = refused_end old p.0 new n (shown r) p.1 p.3 (subst (λ (i : ConnId). Closes p.0 new n i) id p.6.closes) in
     let x : Touch = had b.server b.id e.went in
     let gone = ends_after net mid net' v.link (net_faults net mid faults) (net_buries mid net' v.link p.6.buries) in
-    some_at t n first c None c x olds news old new net net' served a there_was is (went_none old.about.thread n b.id e.went) e.seat gone.faults
-    (refused_way t n b v.link e.went new e.seat.added net net' served e.closed what dial gone))
+    some_at t n first c None c z x olds news old new net net' served a there_was is (went_none old.about.thread n b.id e.went) e.seat gone.faults
+    (refused_way t n b z v.link e.went new e.seat.added net net' served e.closed what dial gone passed e.front e.last e.entries e.none e.refused))
     k.1 in
     record { touch = w.touch; may = inr refl; at = w.at; way = w.way }
   where
@@ -162,13 +168,14 @@ settled_way t n first b olds news old new net mid net' None served a there is fa
     there_was = there
 
 -- a connection whose exchange passed
-pub rests_way : (t : ThreadNo) (n : SessionNo) (first : Bool) (olds news : List History) (b : BusyNow) (net net' : NetState) (q : Option RestedNow) (served : Option Served) → HasAround t n (Some (Exchanging b)) olds
-    → IsPassed served → (refusal b ≡ None → EndsFor b served) → RestsAs olds news n b net net' q → RestWay t n first (Some (Exchanging b)) olds news net net' q served
-rests_way t n first olds news b net net' q served a passed ends k = ⊎_elim
-    (λ s. settled_way t n first b olds news s.3.old s.3.new net s.0 net' q served a s.3.was s.3.seats s.1 passed (ends s.2) s.3.settles)
+pub rests_way : (t : ThreadNo) (n : SessionNo) (first : Bool) (z : Outcome) (olds news : List History) (b : BusyNow) (net net' : NetState) (q : Option RestedNow) (served : Option Served) → HasAround t n (Some (Exchanging b)) olds
+    → IsPassed served → (refusal b ≡ None → EndsFor b served) → ((why : RestCause) → refusal b ≡ Some why → CauseAt n b z net net' served) → RestsAs olds news n b net net' q
+    → RestWay t n first (Some (Exchanging b)) z olds news net net' q served
+rests_way t n first z olds news b net net' q served a passed ends causes k = ⊎_elim
+    (λ s. settled_way t n first b z olds news s.3.old s.3.new net s.0 net' q served a s.3.was s.3.seats s.1 passed (ends s.2) s.3.settles)
     (λ s.
-    let w = busy_some t n first b olds news net net' served a s.4 s.3 in
-    record { touch = w.touch; may = inr s.2; at = w.at; way = subst (λ (o : Option RestedNow). WayFor t n (Some (Exchanging b)) (resting o) news w.at.added net net' w.touch served) (sym s.2) w.way })
+    let w = busy_some t n first b z olds news net net' served a s.4 (causes s.0 s.1) s.3 in
+    record { touch = w.touch; may = inr s.2; at = w.at; way = subst (λ (o : Option RestedNow). WayFor t n (Some (Exchanging b)) (resting o) z news w.at.added net net' w.touch served) (sym s.2) w.way })
     k
 
 -- a session that isn't there
@@ -220,11 +227,11 @@ none_after server (Begun busy fresh) k = absurd k
 none_after server Dead k = absurd k
 none_after server Refused k = refl
 
-connect_way : {X : Type 0} (t : ThreadNo) (n : SessionNo) (first : Bool) (server : ServerNo) (olds news : List History) (old new : History) (now : ℕ) (m : MethodKind) (net net' : NetState) (d : Connected X) → HasAround t n None olds
+connect_way : {X : Type 0} (t : ThreadNo) (n : SessionNo) (first : Bool) (z : Outcome) (server : ServerNo) (olds news : List History) (old new : History) (now : ℕ) (m : MethodKind) (net net' : NetState) (d : Connected X) → HasAround t n None olds
     → slice_get olds server.0 ≡ Some old → news ≡ slice_set olds server.0 new → Connects old new n first server now m net net' d → (touch : Option Touch) → IfSome touch (λ x. x.server ≡ server)
     → (s : SeatMarks old new n (marks_for old.about.thread n first touch)) → ComesTo server d touch
-    → ((s s' : SessionNow) (es : List Note) → s.conn ≡ None → s'.conn ≡ conn_after d → GoesFor s s' new es net net' touch) → SomeWay t n first None (conn_after d) olds news net net' None
-connect_way t n first server olds news old new now m net net' d a there is k None at s comes goes =
+    → ((s s' : SessionNow) (es : List Note) → s.conn ≡ None → s'.conn ≡ conn_after d → GoesFor s s' new es net net' touch) → SomeWay t n first None (conn_after d) z olds news net net' None
+connect_way t n first z server olds news old new now m net net' d a there is k None at s comes goes =
     let all = holds_stand t n None 0 olds a.holds in
     let es : List (List Note) = slice_set (nothing olds) server.0 s.added in
     let one : SeatAdds old new n first [] s.added = record { makes = s.makes; marked = s.marked; wanted = connects_wanted old new n first server now m net net' d k s.added s.makes.makes } in
@@ -239,7 +246,7 @@ connect_way t n first server olds news old new now m net net' d a there is k Non
       };
       way = ((none, tt), record { course = stays.course; dials = stays.dials; buries = stays.buries; faults = connects_faults old new n first server now m net net' d k });
     }
-connect_way t n first server olds news old new now m net net' d a there is k (Some x) at s comes goes =
+connect_way t n first z server olds news old new now m net net' d a there is k (Some x) at s comes goes =
     let all = holds_stand t n None 0 olds a.holds in
     let here : slice_get olds x.server.0 ≡ Some old = ap (λ (v : ServerNo). slice_get olds v.0) at ∙ there in
     let es : List (List Note) = slice_set (nothing olds) x.server.0 s.added in
@@ -252,8 +259,8 @@ connect_way t n first server olds news old new now m net net' d a there is k (So
         adds = subst (λ (hs : List History). AddsFor t n first (Some x) olds hs es) (sym set)
             (adds_touch t n first x olds old new s.added all here (holds_here t n None 0 x.server.0 olds old here a.holds).0 one);
       };
-      way = way_at t n None (conn_after d) x olds news old new s.added net net' None here set (connects_faults old new n first server now m net net' d k)
-          (λ s1 s2 was is2 by named. let z = goes s1 s2 s.added was is2 in (z.0, z.1 None, tt));
+      way = way_at t n None (conn_after d) z x olds news old new s.added net net' None here set (connects_faults old new n first server now m net net' d k)
+          (λ s1 s2 was is2 by named. let y = goes s1 s2 s.added was is2 in (y.0, y.1 None, tt, y.2 n z None));
     }
 
 -- an exchange begins on a connection that the session had, or that is dead
@@ -272,32 +279,35 @@ begun_stays r p now m net net' b probes begins =
       fits = tt;
     }
 
-held_connects : {X : Type 0} (t : ThreadNo) (n : SessionNo) (first : Bool) (olds news : List History) (old new : History) (r : RestedNow) (now : ℕ) (m : MethodKind) (net net' : NetState) (d : Connected X) → HasAround t n (Some (Resting r)) olds
-    → slice_get olds r.server.0 ≡ Some old → news ≡ slice_set olds r.server.0 new → IsRested r → TriesRested old new n r now m net net' d → SomeWay t n first (Some (Resting r)) (conn_after d) olds news net net' None
-held_connects t n first olds news old new r now m net net' (Begun busy fresh) a there is meaning k =
+held_connects : {X : Type 0} (t : ThreadNo) (n : SessionNo) (first : Bool) (z : Outcome) (olds news : List History) (old new : History) (r : RestedNow) (now : ℕ) (m : MethodKind) (net net' : NetState) (d : Connected X) → HasAround t n (Some (Resting r)) olds
+    → slice_get olds r.server.0 ≡ Some old → news ≡ slice_set olds r.server.0 new → IsRested r → TriesRested old new n r now m net net' d → SomeWay t n first (Some (Resting r)) (conn_after d) z olds news net net' None
+held_connects t n first z olds news old new r now m net net' (Begun busy fresh) a there is meaning k =
     let same : news ≡ olds = is ∙ (ap (λ (h : History). slice_set olds r.server.0 h) k.0 ∙ set_same olds r.server.0 old there) in
     let p = k.2 in
     let stays = attach_dials net net' p.2.0.0 in
-    some_none t n first (Some (Resting r)) (Some (Exchanging busy)) olds news net net' None (holds_stand t n (Some (Resting r)) 0 olds a.holds) same (Exchanging busy, refl, begun_stays r p.0 now m net net' busy p.1 p.2)
+    some_none t n first (Some (Resting r)) (Some (Exchanging busy)) z olds news net net' None (holds_stand t n (Some (Resting r)) 0 olds a.holds) same (Exchanging busy, refl, begun_stays r p.0 now m net net' busy p.1 p.2)
     (record { course = stays.1; dials = stays.0; buries = gains_eq net.buried net'.buried (ap (λ (s : NetState). s.buried) p.2.0.0.0); faults = p.2.0.0.1 })
-held_connects t n first olds news old new r now m net net' Dead a there is meaning k =
+held_connects t n first z olds news old new r now m net net' Dead a there is meaning k =
     let dies = dies_so r now k.1 net k.0 meaning k.2 in
     let s = closes_seat old new n r.id k.3.closes in
     let buried = bury_dials net k.0 net' k.1 dies.dials dies.course k.3.buries in
     let gone : NetEnds net net' k.1 = record { course = buried.1; dials = buried.0; buries = bury_gains net.buried k.0.buried net'.buried k.1 dies.buried k.3.buries.3; faults = omega (arith, dies_faults r now k.1 net k.0 k.2, k.3.buries.1) } in
-    some_at t n first (Some (Resting r)) None (Some (Resting r)) (had r.server r.id Ends) olds news old new net net' None a there is (tt, tt) s gone.faults
-    (ends_way t n (Resting r) k.1 new s.added net net' None dies.same dies.dial gone (λ s was. tt))
-held_connects t n first olds news old new r now m net net' Refused a there is meaning k = absurd k
+    some_at t n first (Some (Resting r)) None (Some (Resting r)) z (had r.server r.id Ends) olds news old new net net' None a there is (tt, tt) s gone.faults
+    (ends_way t n (Resting r) z k.1 new s.added net net' None dies.same dies.dial gone (λ s was. tt)
+    (λ s1 s2 was closed left number comes.
+    causes_always (λ y id b. ClosesFor (call_of s1 s2 net net' new b (had r.server r.id Ends) (Some (what_of_link r.link)) (Some (what_of_link k.1)) None left))
+    (λ y id b. ended_at_rest (inl (r, was)) (dead_cause r now k.1 net k.0 net' k.2 k.3.buries.1)) [] s.added))
+held_connects t n first z olds news old new r now m net net' Refused a there is meaning k = absurd k
 
 -- a session that connects
-pub connects_way : {X : Type 0} (t : ThreadNo) (n : SessionNo) (first : Bool) (server : ServerNo) (olds news : List History) (now : ℕ) (m : MethodKind) (net net' : NetState) (held : Option RestedNow) (d : Connected X)
-    → HasAround t n (resting held) olds → IfSome held (λ r. r.server ≡ server) → ConnectsTo olds news n first server now m net net' held d → SomeWay t n first (resting held) (conn_after d) olds news net net' None
-connects_way t n first server olds news now m net net' None d a to k =
+pub connects_way : {X : Type 0} (t : ThreadNo) (n : SessionNo) (first : Bool) (z : Outcome) (server : ServerNo) (olds news : List History) (now : ℕ) (m : MethodKind) (net net' : NetState) (held : Option RestedNow) (d : Connected X)
+    → HasAround t n (resting held) olds → IfSome held (λ r. r.server ≡ server) → ConnectsTo olds news n first server now m net net' held d → SomeWay t n first (resting held) (conn_after d) z olds news net net' None
+connects_way t n first z server olds news now m net net' None d a to k =
     let here : k.old.about.server ≡ server = server_same k.old.about.server server (numbered_here 0 server.0 olds k.old k.was a.servers ∙ omega arith) in
     let x = connects_touch k.old k.new n first server now m net net' d here k.tries in
-    connect_way t n first server olds news k.old k.new now m net net' d a k.was k.seats k.tries x.touch x.at_server x.seat x.comes x.goes
-connects_way t n first server olds news now m net net' (Some r) d a to k =
-    held_connects t n first olds news k.old k.new r now m net net' d a (ap (λ (v : ServerNo). slice_get olds v.0) to ∙ k.was) (k.seats ∙ ap (λ (v : ServerNo). slice_set olds v.0 k.new) (sym to)) k.tries.0 k.tries.1
+    connect_way t n first z server olds news k.old k.new now m net net' d a k.was k.seats k.tries x.touch x.at_server x.seat x.comes x.goes
+connects_way t n first z server olds news now m net net' (Some r) d a to k =
+    held_connects t n first z olds news k.old k.new r now m net net' d a (ap (λ (v : ServerNo). slice_get olds v.0) to ∙ k.was) (k.seats ∙ ap (λ (v : ServerNo). slice_set olds v.0 k.new) (sym to)) k.tries.0 k.tries.1
 
 -- the entries of calls stand seat by seat
 adds_back : (n : SessionNo) (first : Bool) (f : ℕ → List Entry) (i : ℕ) (olds news : List History) (added : List (List Note)) (j : ℕ) (h : History) → EachAdds n first f i olds news added → slice_get news j ≡ Some h
@@ -326,33 +336,42 @@ joined_there (u ∷ a) [] j xs ys x y = cc
 joined_there (u ∷ a) (v ∷ b) zero xs ys x y = ap (λ (l : List Note). Some (l ++ v)) (some_is u xs x) ∙ ap (λ (l : List Note). Some (xs ++ l)) (some_is v ys y)
 joined_there (u ∷ a) (v ∷ b) (suc j) xs ys x y = joined_there a b j xs ys x y
 
+-- calls that touched no connection close none
+adds_free : (n : SessionNo) (first : Bool) (i : ℕ) (olds news : List History) (added : List (List Note)) (j : ℕ) (es : List Note) → EachAdds n first (λ k. []) i olds news added → slice_get added j ≡ Some es → CloseNone (marks_of es)
+adds_free n first i olds news [] j es e there = cc
+adds_free n first i [] [] (x ∷ added) j es e there = absurd e
+adds_free n first i [] (k ∷ news) (x ∷ added) j es e there = absurd e
+adds_free n first i (o ∷ olds) [] (x ∷ added) j es e there = absurd e
+adds_free n first i (o ∷ olds) (k ∷ news) (x ∷ added) zero es e there = subst (λ (l : List Note). CloseNone (marks_of l)) (some_is x es there) (subst CloseNone (sym e.0.marked.marks) tt)
+adds_free n first i (o ∷ olds) (k ∷ news) (x ∷ added) (suc j) es e there = adds_free n first (i + 1) olds news added j es e.1 there
+
 -- calls behind those with which an exchange went on
-at_joined : (t : ThreadNo) (n : SessionNo) (first : Bool) (f : ℕ → List Entry) (c k c' : Option Holding) (xs bs cs : List History) (a b : List (List Note)) (net net' : NetState) (x : Touch) (served : Option Served)
-    → EachAdds n first f 0 xs bs a → AddsFor t n first (Some x) bs cs b → StaysOn c k → WayAt t n k c' cs b net net' x served → WayAt t n c c' cs (joined a b) net net' x served
-at_joined t n first f c k c' xs bs cs a b net net' x served adds more on way =
+at_joined : (t : ThreadNo) (n : SessionNo) (first : Bool) (c k c' : Option Holding) (z : Outcome) (xs bs cs : List History) (a b : List (List Note)) (net net' : NetState) (x : Touch) (served : Option Served)
+    → EachAdds n first (λ i. []) 0 xs bs a → AddsFor t n first (Some x) bs cs b → StaysOn c k → WayAt t n k c' z cs b net net' x served → WayAt t n c c' z cs (joined a b) net net' x served
+at_joined t n first c k c' z xs bs cs a b net net' x served adds more on way =
     let j = x.server.0 in
     let mid = adds_back n first _ 0 bs cs b j way.history more way.seat in
-    let was = adds_back n first f 0 xs bs a j mid.0 adds mid.1 in
-    let es = adds_there n first f 0 xs bs a j was.0 adds was.1 in
+    let was = adds_back n first (λ i. []) 0 xs bs a j mid.0 adds mid.1 in
+    let es = adds_there n first (λ i. []) 0 xs bs a j was.0 adds was.1 in
     record {
       history = way.history;
       es = es.1 ++ way.es;
       seat = way.seat;
       entries = joined_there a b j es.1 way.es es.3 way.entries;
       faults = way.faults;
-      way = way_wider t n c c' way.history es.1 way.es net net' x served (way_on t n c k c' way.history way.es net net' x served on way.way);
+      way = way_wider t n c c' z way.history es.1 way.es net net' x served (adds_free n first 0 xs bs a j es.1 adds es.3) (way_on t n c k c' z way.history way.es net net' x served on way.way);
     }
 
-pub way_joined : (t : ThreadNo) (n : SessionNo) (first : Bool) (f : ℕ → List Entry) (c k c' : Option Holding) (xs bs cs : List History) (a b : List (List Note)) (old mid new : NetState) (x : Option Touch) (served : Option Served)
-    → EachAdds n first f 0 xs bs a → AddsFor t n first x bs cs b → StaysOn c k → mid ≡ old → WayFor t n k c' cs b mid new x served → WayFor t n c c' cs (joined a b) old new x served
-way_joined t n first f c k c' xs bs cs a b old mid new None served adds more on same way = (stays_then c k c' served on way.0, subst (λ (s : NetState). NetStays s new) same way.1)
-way_joined t n first f c k c' xs bs cs a b old mid new (Some x) served adds more on same way =
-    at_joined t n first f c k c' xs bs cs a b old new x served adds more on (subst (λ (s : NetState). WayAt t n k c' cs b s new x served) same way)
+pub way_joined : (t : ThreadNo) (n : SessionNo) (first : Bool) (c k c' : Option Holding) (z : Outcome) (xs bs cs : List History) (a b : List (List Note)) (old mid new : NetState) (x : Option Touch) (served : Option Served)
+    → EachAdds n first (λ i. []) 0 xs bs a → AddsFor t n first x bs cs b → StaysOn c k → mid ≡ old → WayFor t n k c' z cs b mid new x served → WayFor t n c c' z cs (joined a b) old new x served
+way_joined t n first c k c' z xs bs cs a b old mid new None served adds more on same way = (stays_then c k c' served on way.0, subst (λ (s : NetState). NetStays s new) same way.1)
+way_joined t n first c k c' z xs bs cs a b old mid new (Some x) served adds more on same way =
+    at_joined t n first c k c' z xs bs cs a b old new x served adds more on (subst (λ (s : NetState). WayAt t n k c' z cs b s new x served) same way)
 
 -- what rests with the session is closed, behind calls that touched no connection
 closes_then : (t : ThreadNo) (n : SessionNo) (first : Bool) (c : Holding) (r : RestedNow) (seats0 seats seats' : List History) (added : List (List Note)) (net0 net mid net' : NetState) (served : Option Served)
     → HasAround t n (Some (Resting r)) seats → AddsFor t n first None seats0 seats added → ConnStays c (Resting r) served → NetStays net0 net → IsRested r → ClosesHeld seats seats' r.server.0 n r.id net mid r.link → OnlyFaults mid net'
-    → SomeWay t n first (Some c) None seats0 seats' net0 net' served
+    → SomeWay t n first (Some c) None Leaving seats0 seats' net0 net' served
 closes_then t n first c r seats0 seats seats' added net0 net mid net' served a adds stays kept meaning k faults =
     let x : Touch = had r.server r.id Ends in
     let j = r.server.0 in
@@ -365,6 +384,8 @@ closes_then t n first c r seats0 seats seats' added net0 net mid net' served a a
     let there = adds_there n first _ 0 seats0 seats added j was.0 adds was.1 in
     let gone = ends_before net0 mid net' r.link (ends_after net0 net mid r.link kept (net_buries net mid r.link k.closed.buries)) (net_faults mid net' faults) in
     let all : List Note = there.1 ++ s.added in
+    let mode : k.old.about.rules.mode ≡ Never = subst (λ (h : History). h.about.rules.mode ≡ Never) (some_is a.never.0 k.old (sym a.never.1 ∙ k.was)) a.never.2 in
+    let never : k.new.about.rules.mode ≡ Never = ap (λ (b : About). b.rules.mode) k.closed.closes.makes.about ∙ mode in
     record {
       touch = Some x;
       at = record { added = joined added es; adds = adds_then t n first (Some x) seats0 seats seats' added es adds more };
@@ -374,14 +395,14 @@ closes_then t n first c r seats0 seats seats' added net0 net mid net' served a a
         seat = subst (λ (hs : List History). slice_get hs j ≡ Some k.new) (sym k.seats) (seat_set j seats k.old k.new k.was);
         entries = joined_there added es j there.1 s.added there.3 (entries_at seats j k.old s.added k.was);
         faults = gone.faults;
-        way = subst (λ (v : ServerNo). WayOf t n (Some c) None k.new all net0 net' (had v r.id Ends) served) (sym stays.server)
-            (subst (λ (i : ConnId). WayOf t n (Some c) None k.new all net0 net' (had (conn_server c) i Ends) served) (sym stays.id) (held_way t n c r k.new all net0 net' served stays meaning gone));
+        way = subst (λ (v : ServerNo). WayOf t n (Some c) None Leaving k.new all net0 net' (had v r.id Ends) served) (sym stays.server)
+            (subst (λ (i : ConnId). WayOf t n (Some c) None Leaving k.new all net0 net' (had (conn_server c) i Ends) served) (sym stays.id) (held_way t n c r k.new all net0 net' served never stays meaning gone));
       };
     }
 
 pub held_then : (t : ThreadNo) (n : SessionNo) (first : Bool) (c : Option Holding) (r : RestedNow) (seats0 seats seats' : List History) (added : List (List Note)) (net0 net mid net' : NetState) (served : Option Served)
     → HasAround t n (Some (Resting r)) seats → AddsFor t n first None seats0 seats added → StaysWith c (Some (Resting r)) served → NetStays net0 net → IsRested r → ClosesHeld seats seats' r.server.0 n r.id net mid r.link
-    → OnlyFaults mid net' → SomeWay t n first c None seats0 seats' net0 net' served
+    → OnlyFaults mid net' → SomeWay t n first c None Leaving seats0 seats' net0 net' served
 held_then t n first None r seats0 seats seats' added net0 net mid net' served a adds stays kept meaning k faults = absurd (not_some (Resting r) stays.0)
 held_then t n first (Some c) r seats0 seats seats' added net0 net mid net' served a adds stays kept meaning k faults =
     closes_then t n first c r seats0 seats seats' added net0 net mid net' served a adds

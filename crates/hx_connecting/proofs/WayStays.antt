@@ -1,5 +1,5 @@
 -- A connection that stays with its session, from call to call.
-use Rattle.std.proofs.Common.{◌≡◌, ℕ, ◌+◌, List, ◌++◌, refl, sym, ap, subst, ◌∙◌, inl, inr, Option, Some, None, ⊎_elim}
+use Rattle.std.proofs.Common.{◌≡◌, ℕ, ◌+◌, List, [], ◌++◌, refl, sym, ap, subst, ◌∙◌, inl, inr, Option, Some, None, ⊎_elim}
 use Rattle.std.specs.Prelude.{IfSome}
 use Rattle.std.proofs.lemmas.List.Elements.{Contains-append_right}
 use Rattle.hx_base.specs.Spans.{bytes_in}
@@ -19,6 +19,12 @@ use Rattle.hx_record.specs.declared.served.Carried.{Carried}
 use Rattle.hx_record.specs.declared.served.Kind.{Kind}
 use Rattle.hx_record.specs.declared.served.Kind.TheVariants as kind
 use Rattle.hx_record.specs.declared.served.Served.{Served}
+use Rattle.hx_pool.specs.History.{marks_of}
+use Rattle.hx_pool.specs.Wants.{ClosesForCause}
+use Rattle.std.proofs.lemmas.List.{append-nil}
+use Rattle.hx_connecting.specs.Closings.{ClosesFor, call_of}
+use Rattle.hx_connecting.specs.Outcomes.{Outcome, CloseNone}
+use Rattle.hx_connecting.proofs.CauseLemmas.{Causes, causes_on, causes_behind, causes_wider, cause_back, cause_wider}
 use Rattle.hx_connecting.specs.Exchanges.{HadGoes, IsSameExchange, ExchangeGoes, PassedEnds, EndsWith, IsClosed, CameGoes}
 use Rattle.hx_connecting.specs.Links.{IsSameLink, GoesOn, TellsBefore, TellsAfter}
 use Rattle.hx_connecting.specs.Sessions.{SessionNow, Holding, Resting, Exchanging, IsSomeAnd, conn_link, conn_server, conn_id}
@@ -203,9 +209,9 @@ record_behind s s2 x a b before after None is was was2 same told f = tt
 record_behind s s2 x a b before after (Some r) is was was2 same told f =
     record { ends = same_ends s s2 x x after a b r.kind was was2 refl same f.ends; told = f.told ∙ (ap told_by is ∙ told) }
 
-pub way_behind : (t : ThreadNo) (n : SessionNo) (a b : BusyNow) (c' : Option Holding) (h : History) (es : List Note) (old new : NetState) (x : Touch) (served : Option Served) → ExchangeStays a b
-    → IfSome served (λ r. ToldStays a b) → WayOf t n (Some (Exchanging b)) c' h es old new x served → WayOf t n (Some (Exchanging a)) c' h es old new x served
-way_behind t n a b c' h es old new x served e told way = λ s s' was is by named.
+pub way_behind : (t : ThreadNo) (n : SessionNo) (a b : BusyNow) (c' : Option Holding) (o : Outcome) (h : History) (es : List Note) (old new : NetState) (x : Touch) (served : Option Served) → ExchangeStays a b
+    → IfSome served (λ r. ToldStays a b) → WayOf t n (Some (Exchanging b)) c' o h es old new x served → WayOf t n (Some (Exchanging a)) c' o h es old new x served
+way_behind t n a b c' o h es old new x served e told way = λ s s' was is by named.
     let s2 : SessionNow = record s { conn = Some (Exchanging b) } in
     let z = way s2 s' refl is by named in
     let g = z.0 in
@@ -222,14 +228,17 @@ way_behind t n a b c' h es old new x served e told way = λ s s' was is by named
       },
       exchange_behind s s2 s' x x.went a b g.before (Some (what_of_link a.link)) served had.had was refl e.same z.1,
       record_behind s s2 x a b g.before g.after served had.told was refl e.same told z.2,
+      λ closed left number comes.
+          causes_on (λ m id q. ClosesFor (call_of s2 s' old new h q x g.before g.after served left)) (λ m id q. ClosesFor (call_of s s' old new h q x (Some (what_of_link a.link)) g.after served left))
+          (λ m id q. cause_back s s2 s' old new h q x g.before (Some (what_of_link a.link)) g.after served left a b was refl refl had.had e.same) [] es (z.3 closed left number comes),
     )
 
-pub way_on : (t : ThreadNo) (n : SessionNo) (c k c' : Option Holding) (h : History) (es : List Note) (old new : NetState) (x : Touch) (served : Option Served) → StaysOn c k
-    → WayOf t n k c' h es old new x served → WayOf t n c c' h es old new x served
-way_on t n None k c' h es old new x served e way = subst (λ (o : Option Holding). WayOf t n o c' h es old new x served) e way
-way_on t n (Some (Resting r)) k c' h es old new x served e way = subst (λ (o : Option Holding). WayOf t n o c' h es old new x served) e way
-way_on t n (Some (Exchanging a)) k c' h es old new x served e way =
-    way_behind t n a e.0 c' h es old new x served e.2 (always served e.3) (subst (λ (o : Option Holding). WayOf t n o c' h es old new x served) e.1 way)
+pub way_on : (t : ThreadNo) (n : SessionNo) (c k c' : Option Holding) (z : Outcome) (h : History) (es : List Note) (old new : NetState) (x : Touch) (served : Option Served) → StaysOn c k
+    → WayOf t n k c' z h es old new x served → WayOf t n c c' z h es old new x served
+way_on t n None k c' z h es old new x served e way = subst (λ (o : Option Holding). WayOf t n o c' z h es old new x served) e way
+way_on t n (Some (Resting r)) k c' z h es old new x served e way = subst (λ (o : Option Holding). WayOf t n o c' z h es old new x served) e way
+way_on t n (Some (Exchanging a)) k c' z h es old new x served e way =
+    way_behind t n a e.0 c' z h es old new x served e.2 (always served e.3) (subst (λ (o : Option Holding). WayOf t n o c' z h es old new x served) e.1 way)
 
 -- with entries before those of the way
 tells_wider : (s : SessionNow) (xs es : List Note) (x : Touch) (went : Went) (l : Option LinkState) (w : Option What) → TellsAfter s es x went l w → TellsAfter s (xs ++ es) x went l w
@@ -238,9 +247,9 @@ tells_wider s xs es x (Rests place uses) l w y = (y.0, y.1, (y.2.0, y.2.1, Conta
 tells_wider s xs es x Ends l w y = y
 tells_wider s xs es x (EndsTakenBack place uses) l w y = y
 
-pub way_wider : (t : ThreadNo) (n : SessionNo) (c c' : Option Holding) (h : History) (xs es : List Note) (old new : NetState) (x : Touch) (served : Option Served) → WayOf t n c c' h es old new x served
-    → WayOf t n c c' h (xs ++ es) old new x served
-way_wider t n c c' h xs es old new x served way = λ s s' was is by named.
+pub way_wider : (t : ThreadNo) (n : SessionNo) (c c' : Option Holding) (o : Outcome) (h : History) (xs es : List Note) (old new : NetState) (x : Touch) (served : Option Served) → CloseNone (marks_of xs)
+    → WayOf t n c c' o h es old new x served → WayOf t n c c' o h (xs ++ es) old new x served
+way_wider t n c c' o h xs es old new x served none way = λ s s' was is by named.
     let z = way s s' was is by named in
     let g = z.0 in (
       record {
@@ -255,4 +264,8 @@ way_wider t n c c' h xs es old new x served way = λ s s' was is by named.
       },
       z.1,
       z.2,
+      λ closed left number comes.
+          let P : Causes = λ m id b. ClosesFor (call_of s s' old new h b x g.before g.after served left) in
+          causes_behind P [] xs es none
+          (subst (λ (l : List Note). ClosesForCause P l es) (append-nil xs) (causes_wider P P xs (λ m id b. cause_wider s s' old new h xs b x g.before g.after served left) [] es (z.3 closed left number comes))),
     )

@@ -37,6 +37,22 @@ pub record Call : Type 0 where
   pub served : Option Served
   pub left : Option Left
 
+abbrev pub call_of : SessionNow → SessionNow → NetState → NetState → History → List Note → Touch → Option What → Option What → Option Served
+    → Option Left → Call
+call_of s s' net_old net_new h es x before after served left = record {
+  old = s;
+  new = s';
+  net_old = net_old;
+  net_new = net_new;
+  history = h;
+  before_close = es;
+  touch = x;
+  before = before;
+  after = after;
+  served = served;
+  left = left;
+}
+
 -- it rested with the session when the call began, or was taken in it
 abbrev pub WasAtRest : Call → Type 0
 WasAtRest c =

@@ -3,6 +3,7 @@ pub mod Touches
 pub mod Links
 pub mod Exchanges
 pub mod Closings
+pub mod Outcomes
 pub mod Choosing
 pub mod Holds
 pub mod Journals

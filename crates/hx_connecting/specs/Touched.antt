@@ -6,7 +6,7 @@ use Rattle.hx_base.specs.declared.numbers.ThreadNo.{ThreadNo}
 use Rattle.hx_pool.specs.declared.entries.Entry.{Entry}
 use Rattle.hx_pool.specs.declared.entries.Note.{Note}
 use Rattle.hx_pool.specs.History.{marks_of}
-use Rattle.hx_pool.specs.SeatView.{History, Makes, Calls, StandsInOneHistory}
+use Rattle.hx_pool.specs.SeatView.{History, Calls, StandsInOneHistory}
 use Rattle.hx_connecting.specs.declared.connecting.Connected.{Connected}
 use Rattle.hx_connecting.specs.declared.connecting.Connected.TheVariants.{Begun, Dead, Refused}
 use Rattle.hx_base.specs.declared.numbers.ConnId.{ConnId}
@@ -16,8 +16,10 @@ use Rattle.hx_link.specs.Nets.{NetState}
 use Rattle.hx_record.specs.declared.served.Served.{Served}
 use Rattle.hx_connecting.specs.Exchanges.{IsClosed, ExchangeGoes}
 use Rattle.hx_connecting.specs.Links.{LinkGoes, NoLinkGoes}
+use Rattle.hx_connecting.specs.Outcomes.{Outcome, HasCause, CloseNone}
+use Rattle.hx_pool.specs.Wants.{EndsRefused}
 use Rattle.hx_connecting.specs.Sessions.{SessionNow, Holding, Exchanging}
-use Rattle.hx_connecting.specs.Touches.{Touch, went_marks, touch_marks, marks_at, Adds, AllOf, Balances, Came, Had, Opened, Took, Went, Stays, Ends}
+use Rattle.hx_connecting.specs.Touches.{Touch, went_marks, touch_marks, Adds, AllOf, Balances, Opened, Went, Stays, Ends}
 
 -- the entries have these marks, are the session's own, and leave the count at what rests, whatever is made behind them
 pub record Marked (n : SessionNo) (es : List Note) (ms : List Entry) : Type 0 where
@@ -51,11 +53,12 @@ conn_after (Begun busy fresh) = Some (Exchanging busy)
 conn_after Dead = None
 conn_after Refused = None
 
--- the link of the touched connection goes its way, and so does its exchange
+-- the link of the touched connection goes its way, and so does its exchange, and a closing has a cause however the call ends
 abbrev pub GoesFor : SessionNow → SessionNow → History → List Note → NetState → NetState → Option Touch → Type 0
 GoesFor s s' h es old new None = NoLinkGoes s s' old new
 GoesFor s s' h es old new (Some x) =
     (g : LinkGoes s s' h es old new x) × ((served : Option Served) → ExchangeGoes s s' x x.went g.before served)
+    × ((n : SessionNo) (z : Outcome) (served : Option Served) → HasCause n z s s' h es old new x g.before g.after served)
 
 -- a try to connect touches at most one connection, of that server
 pub record ConnectTouches {X : Type 0} (old new : History) (n : SessionNo) (first : Bool) (server : ServerNo) (net_old net_new : NetState) (c : Connected X) : Type 0 where
@@ -80,11 +83,16 @@ EachMarks n f i old new = ⊥
 abbrev pub AddsSome : ThreadNo → SessionNo → Bool → Option Touch → List History → List History → Type 0
 AddsSome t n first x old new = (added : List (List Note)) × Adds t n first x old new added
 
--- a connection that might not rest was closed, perhaps after a park that a drain took back
+-- a connection that might not rest was closed, perhaps after a park that a drain took back; the refusal stands in front of the Close
 pub record RefusedMarks (old new : History) (n : SessionNo) (id : ConnId) : Type 0 where
   pub went : Went
   pub closed : IsClosed went
   pub seat : SeatMarks old new n (went_marks old.about.thread n id went)
+  pub front : List Note
+  pub last : Note
+  pub entries : seat.added ≡ front ++ last ∷ []
+  pub refused : EndsRefused new n id front
+  pub none : CloseNone (marks_of front)
 
 -- the face of the connection on which an exchange began
 abbrev pub held_after : {X : Type 0} → Connected X → Option Face

@@ -16,6 +16,7 @@ use Rattle.hx_connecting.specs.Adding.{TouchesSeats}
 use Rattle.hx_connecting.specs.Around.{resting}
 use Rattle.hx_connecting.specs.Exchanges.{HadGoes, IsSameExchange, ExchangeGoes, PassedEnds}
 use Rattle.hx_connecting.specs.Links.{IsSameLink, GainsAll, CourseStays, LinkGoes}
+use Rattle.hx_connecting.specs.Outcomes.{Outcome, HasCause}
 use Rattle.hx_connecting.specs.Sessions.{SessionNow, Holding, Resting, Exchanging, conn_link, conn_server, conn_id}
 use Rattle.hx_connecting.specs.Touches.{Touch, Had, Stays}
 
@@ -88,41 +89,42 @@ StaysOn None c' = c' ≡ None
 StaysOn (Some (Resting r)) c' = c' ≡ Some (Resting r)
 StaysOn (Some (Exchanging a)) c' = (b : BusyNow) × (c' ≡ Some (Exchanging b)) × ExchangeStays a b × ToldStays a b
 
--- the link of the touched connection goes its way, and its exchange, and a record fits it, for each session of that number which had
--- the one connection and has the other
-abbrev pub WayOf : ThreadNo → SessionNo → Option Holding → Option Holding → History → List Note → NetState → NetState → Touch
+-- the link of the touched connection goes its way, and its exchange, a record fits it, and a closing of it has a cause, for each session
+-- of that number which had the one connection and has the other
+abbrev pub WayOf : ThreadNo → SessionNo → Option Holding → Option Holding → Outcome → History → List Note → NetState → NetState → Touch
     → Option Served → Type 0
-WayOf t n c c' h es old new x served =
+WayOf t n c c' z h es old new x served =
     (s s' : SessionNow) → s.conn ≡ c → s'.conn ≡ c' → s'.worker ≡ t → s'.number ≡ n
     → (g : LinkGoes s s' h es old new x) × ExchangeGoes s s' x x.went g.before served
     × IfSome served (λ r. FitsRecord s x g.before g.after r)
+    × HasCause n z s s' h es old new x g.before g.after served
 
-pub record WayAt (t : ThreadNo) (n : SessionNo) (c c' : Option Holding) (news : List History) (added : List (List Note))
-    (old new : NetState) (x : Touch) (served : Option Served) : Type 0 where
+pub record WayAt (t : ThreadNo) (n : SessionNo) (c c' : Option Holding) (z : Outcome) (news : List History)
+    (added : List (List Note)) (old new : NetState) (x : Touch) (served : Option Served) : Type 0 where
   pub history : History
   pub es : List Note
   pub seat : slice_get news x.server.0 ≡ Some history
   pub entries : slice_get added x.server.0 ≡ Some es
   pub faults : old.faults ≤ new.faults
-  pub way : WayOf t n c c' history es old new x served
+  pub way : WayOf t n c c' z history es old new x served
 
 -- where no connection was touched, the session has what it had
-abbrev pub WayFor : ThreadNo → SessionNo → Option Holding → Option Holding → List History → List (List Note) → NetState → NetState
-    → Option Touch → Option Served → Type 0
-WayFor t n c c' news added old new None served = StaysWith c c' served × NetStays old new
-WayFor t n c c' news added old new (Some x) served = WayAt t n c c' news added old new x served
+abbrev pub WayFor : ThreadNo → SessionNo → Option Holding → Option Holding → Outcome → List History → List (List Note) → NetState
+    → NetState → Option Touch → Option Served → Type 0
+WayFor t n c c' z news added old new None served = StaysWith c c' served × NetStays old new
+WayFor t n c c' z news added old new (Some x) served = WayAt t n c c' z news added old new x served
 
 -- calls that touched one connection, or none: their entries, and the way of the session's connection
-pub record SomeWay (t : ThreadNo) (n : SessionNo) (first : Bool) (c c' : Option Holding) (olds news : List History)
+pub record SomeWay (t : ThreadNo) (n : SessionNo) (first : Bool) (c c' : Option Holding) (z : Outcome) (olds news : List History)
     (old new : NetState) (served : Option Served) : Type 0 where
   pub touch : Option Touch
   pub at : TouchesSeats t n first touch olds news
-  pub way : WayFor t n c c' news at.added old new touch served
+  pub way : WayFor t n c c' z news at.added old new touch served
 
 -- and where they touched one, nothing rests with the session behind them
-pub record RestWay (t : ThreadNo) (n : SessionNo) (first : Bool) (c : Option Holding) (olds news : List History) (old new : NetState)
-    (held : Option RestedNow) (served : Option Served) : Type 0 where
+pub record RestWay (t : ThreadNo) (n : SessionNo) (first : Bool) (c : Option Holding) (z : Outcome) (olds news : List History)
+    (old new : NetState) (held : Option RestedNow) (served : Option Served) : Type 0 where
   pub touch : Option Touch
   pub may : (touch ≡ None) ⊎ (held ≡ None)
   pub at : TouchesSeats t n first touch olds news
-  pub way : WayFor t n c (resting held) news at.added old new touch served
+  pub way : WayFor t n c (resting held) z news at.added old new touch served

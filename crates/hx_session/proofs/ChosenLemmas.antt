@@ -1,5 +1,5 @@
 -- The choice of a step, as its worker learns of it.
-use Rattle.std.proofs.Common.{◌≡◌, ◌⊎◌, ◌<◌, ◌+◌, ◌==◌, ℕ, zero, suc, Bool, true, false, List, [], ◌∷◌, ◌++◌, length, get_or, refl, sym, ap, subst, ◌∙◌, inl, inr, arith, Option, Some, None, ⊎_elim}
+use Rattle.std.proofs.Common.{◌≡◌, ◌⊎◌, ◌<◌, ◌+◌, ℕ, zero, suc, Bool, true, false, List, [], ◌∷◌, ◌++◌, length, get_or, refl, sym, ap, subst, ◌∙◌, inl, inr, arith, Option, Some, None, ⊎_elim}
 use Rattle.std.specs.Prelude.{IfSome, IsSome}
 use Rattle.std.specs.List.{slice_get, slice_set}
 use Rattle.std.proofs.lemmas.List.{append_cancel_left}
@@ -12,11 +12,10 @@ use Rattle.hx_config.specs.declared.parts.Server.{Server}
 use Rattle.hx_config.specs.Meaning.{Meaning}
 use Rattle.hx_conn.specs.Conns.{RestedNow}
 use Rattle.hx_link.specs.Nets.{NetState}
-use Rattle.hx_pool.specs.declared.entries.Entry.{Entry}
 use Rattle.hx_pool.specs.declared.entries.Note.{Note}
 use Rattle.hx_pool.specs.History.{marks_of}
 use Rattle.hx_pool.specs.SeatView.{History}
-use Rattle.hx_connecting.specs.Choosing.{back_no, servers_of, Turns, IsChosen, KeepsChoice}
+use Rattle.hx_connecting.specs.Choosing.{back_no, Turns, IsChosen, KeepsChoice}
 use Rattle.hx_connecting.specs.Holds.{HoldsConn}
 use Rattle.hx_connecting.specs.Sessions.{Holding, Resting, around_with, is_first}
 use Rattle.hx_connecting.specs.Touches.{Touch, Came, Had, Opened, Took, touch_marks, went_marks, came_marks, marks_at, AddsEach, HasMarks, Adds}
@@ -25,7 +24,7 @@ use Rattle.hx_connecting.proofs.EachLemmas.{here}
 use Rattle.hx_session.specs.declared.step.Step.{Step}
 use Rattle.hx_session.specs.Desks.{DeskNow}
 use Rattle.hx_session.specs.Picked.{IsOfSeat, StepPicks}
-use Rattle.hx_session.specs.Picking.{ChangesAt, CallsAt, KeepsServer, or_chose, TakesTurn, PicksAll}
+use Rattle.hx_session.specs.Picking.{CallsAt, KeepsServer, or_chose, TakesTurn, PicksAll}
 use Rattle.hx_session.specs.Seen.{conn_seen, chosen_seen, own_seen, over_seen, session_seen}
 use Rattle.hx_session.specs.Stages.{StageNow}
 use Rattle.hx_session.proofs.TurnLemmas.{is_or_not, set_other, set_again, set_count, there_is, Grew, NoMark, AnyNotes, AllOfThread, grew_none, grew_set, asked_grew, adds_at, no_mark_both, grew_then, chooses_by_gates}

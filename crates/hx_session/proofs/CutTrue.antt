@@ -1,18 +1,18 @@
 -- The record of an exchange that is cut off is true.
-use Rattle.std.proofs.Common.{◌≡◌, ◌⊎◌, ◌+◌, ◌-◌, ◌≤◌, ℕ, Bool, true, false, List, [], ◌++◌, length, take, drop, refl, sym, ap, subst, ◌∙◌, inl, inr, append_assoc, arith, Some, ⊎_elim}
+use Rattle.std.proofs.Common.{◌≡◌, ◌+◌, ◌-◌, ◌≤◌, ℕ, Bool, true, false, List, [], ◌++◌, length, take, drop, sym, ap, subst, ◌∙◌, inl, inr, append_assoc, arith, Some, ⊎_elim}
 use Rattle.std.specs.List.{flat_map}
 use Rattle.std.proofs.lemmas.List.{append-nil, length-append, length-take, take-append-drop}
-use Rattle.std.proofs.Math.Seq.{take-append-add, drop-append_seam}
-use Rattle.httparse.specs.Grammar.{RequestHead, ResponseHead}
+use Rattle.std.proofs.Math.Seq.{drop-append_seam}
+use Rattle.httparse.specs.Grammar.{ResponseHead}
 use Rattle.httparse.proofs.GrammarLemmas.{ReadsRequest-append, ReadsResponse-append}
 use Rattle.hx_base.specs.Spans.{bytes_in, span_size}
 use Rattle.hx_message.specs.declared.MethodKind.{MethodKind}
-use Rattle.hx_message.specs.Forwarded.{BeginsRequest, ForwardsRequest, ForwardsAnswer, forwarded_answer}
+use Rattle.hx_message.specs.Forwarded.{BeginsRequest, ForwardsAnswer, forwarded_answer}
 use Rattle.hx_message.specs.Body.{IsBody}
 use Rattle.hx_message.specs.Message.{IsWholeAnswer}
 use Rattle.hx_frame.specs.declared.progress.MeterState.{MeterState}
 use Rattle.hx_frame.specs.Meters.{MeterFits}
-use Rattle.hx_message.specs.Partial.{IsPrefix, EndsRequest, EndsAnswer, HasFinalHead, BeginsForwardedRequest, BeginsForwardedAnswer}
+use Rattle.hx_message.specs.Partial.{EndsRequest, EndsAnswer, HasFinalHead, BeginsForwardedRequest, BeginsForwardedAnswer}
 use Rattle.hx_frame.proofs.EndLemmas.{interims_more, one_answer_end}
 use Rattle.hx_record.specs.Truth.{IsTrueCut, IsEarly}
 use Rattle.hx_record.specs.declared.served.CutCause.{CutCause}

@@ -1,8 +1,10 @@
 -- What a step of a session leaves to its worker.
 use Rattle.std.proofs.Common.{◌≡◌, ◌<◌, ℕ, zero, suc, true, false, List, [], ◌∷◌, length, refl, sym, ap, subst, ◌∙◌, inl, inr, arith, Option, Some, None, ⊎_elim, ◌⊎◌}
-use Rattle.std.specs.Prelude.{IfSome, Contains}
+use Rattle.std.specs.Prelude.{IfSome, IsSome, Contains}
 use Rattle.std.specs.List.{slice_get, slice_set}
 use Rattle.hx_base.specs.declared.numbers.ServerNo.{ServerNo}
+use Rattle.hx_base.specs.declared.numbers.ThreadNo.{ThreadNo}
+use Rattle.hx_base.specs.declared.numbers.Millis.{Millis}
 use Rattle.hx_config.specs.declared.parts.Back.{Back}
 use Rattle.hx_config.specs.declared.parts.Front.{Front}
 use Rattle.hx_config.specs.Limits.{all_servers}
@@ -18,7 +20,11 @@ use Rattle.hx_session.specs.Desks.{DeskNow}
 use Rattle.hx_session.specs.Fits.{SeatsServe, GoesTo, IsGoing, TurnsFit}
 use Rattle.hx_session.specs.Seen.{conn_seen, chosen_seen, unless_held, over_seen, session_seen}
 use Rattle.hx_session.specs.Stages.{StageNow, Reading, Choosing, Exchanging, Answering, Left}
-use Rattle.hx_session.specs.Standing.{IsSound, IsPlaced, IsRoutedTo, IsDone}
+use Rattle.hx_session.specs.Standing.{IsSound, IsPlaced, IsRoutedTo, IsDone, KeepsWho}
+use Rattle.hx_session.specs.Doings.{IsSameSession}
+use Rattle.hx_session.specs.Parting.{outcome_of}
+use Rattle.hx_connecting.specs.Outcomes.{ComesOut}
+use Rattle.hx_session.proofs.ClientLemmas.{client_self}
 use Rattle.hx_session.proofs.EntryLemmas.{never_back}
 
 -- between its calls
@@ -50,6 +56,45 @@ done_left d (Reading held) seats w left k e = cc
 done_left d (Choosing c) seats w left k e = cc
 done_left d (Exchanging x) seats w left k e = cc
 done_left d (Answering a) seats w left k e = cc
+
+-- how it comes out
+pub done_comes : (front : ℕ) (d : DeskNow) (s : StageNow) (seats : List History) (w : Waits) (left : Option Leave) → IsDone d s seats w left → ComesOut (outcome_of s) (session_seen front d s) left
+done_comes front d Left seats w left k = subst (λ (o : Option Leave). IsSome o) (sym k.2.1) refl
+done_comes front d (Reading held) seats w left k = tt
+done_comes front d (Choosing c) seats w left k = tt
+done_comes front d (Exchanging x) seats w left k = tt
+done_comes front d (Answering a) seats w left k = refl
+
+-- a session that goes on has its client's link on its worker's loop
+done_loop : (d : DeskNow) (s : StageNow) (seats : List History) (w : Waits) (left : Option Leave) → IsDone d s seats w left → over_seen s ≡ false → d.client.on_loop ≡ Some d.worker.0
+done_loop d Left seats w left k e = cc
+done_loop d (Reading held) seats w left k e = k.0.set.numbered.on_loop
+done_loop d (Choosing c) seats w left k e = k.0.set.numbered.on_loop
+done_loop d (Exchanging x) seats w left k e = k.0.set.numbered.on_loop
+done_loop d (Answering a) seats w left k e = k.0.set.numbered.on_loop
+
+-- what stays of it in a step
+pub done_same : (front : ℕ) (d d' : DeskNow) (s s' : StageNow) (seats : List History) (w : Waits) (left : Option Leave) → KeepsWho d d' → d.client.on_loop ≡ Some d.worker.0 → IsDone d' s' seats w left
+    → IsSameSession (session_seen front d s) (session_seen front d' s')
+done_same front d d' s s' seats w left k loop done = record {
+  worker = k.worker;
+  number = k.session;
+  front = refl;
+  since = ap (λ (m : Millis). m.0) k.since;
+  client = k.client;
+  loop = (
+    λ e. done_loop d' s' seats w left done e ∙ (ap (λ (t : ThreadNo). Some t.0) k.worker ∙ sym loop),
+    λ e. done_left d' s' seats w left done e,
+  );
+}
+
+-- one that has given its Left is as it was
+pub over_same : (front : ℕ) (d : DeskNow) (s : StageNow) → IsSound d s → over_seen s ≡ true → IsSameSession (session_seen front d s) (session_seen front d s)
+over_same front d Left k e = record { worker = refl; number = refl; front = refl; since = refl; client = client_self d.client; loop = (λ x. refl, λ x. k.2) }
+over_same front d (Reading held) k e = cc
+over_same front d (Choosing c) k e = cc
+over_same front d (Exchanging x) k e = cc
+over_same front d (Answering a) k e = cc
 
 -- the server that was chosen, as the worker sees it
 exit_goes : (b : Back) (s : StageNow) → IsRoutedTo b s → GoesTo b (conn_seen s) (chosen_seen s)

@@ -1,5 +1,5 @@
 -- What a step and a stop do with links, as the worker sees it.
-use Rattle.std.proofs.Common.{◌≡◌, ◌≤◌, ℕ, ◌==◌, Bool, true, false, List, [], ◌∷◌, refl, sym, ap, subst, ◌∙◌, zero, suc, Option, Some, None}
+use Rattle.std.proofs.Common.{◌≡◌, ◌≤◌, ℕ, ◌==◌, Bool, true, false, List, [], ◌∷◌, refl, sym, ap, subst, ◌∙◌, zero, suc, ⊎_elim, Option, Some, None}
 use Rattle.std.specs.Prelude.{IfSome, slice_get, slice_set, if◌then◌else◌}
 use Rattle.hx_base.specs.declared.numbers.SessionNo.{SessionNo}
 use Rattle.hx_base.specs.declared.numbers.ThreadNo.{ThreadNo}
@@ -48,7 +48,12 @@ use Rattle.hx_session.specs.Stages.{StageNow, Reading, Choosing, Exchanging, Ans
 use Rattle.hx_session.specs.Steps.{doing}
 use Rattle.hx_session.specs.Stopping.{StopTouches, stopping, stopped_of}
 use Rattle.hx_session.specs.Telling.{KindTold, RecordsTold, conn_told, stopped}
-use Rattle.hx_session.specs.Touching.{Touches, after_of}
+use Rattle.hx_session.specs.Touching.{ClosesForCauses, Touches, after_of, closing_call}
+use Rattle.hx_session.proofs.ClosingLemmas.{added_marks, closed_or_free}
+use Rattle.hx_connecting.specs.Closings.{ClosesFor}
+use Rattle.hx_connecting.specs.Outcomes.{Outcome, ComesOut, CloseNone}
+use Rattle.hx_connecting.proofs.CauseLemmas.{causes_none}
+use Rattle.hx_session.specs.Parting.{outcome_of}
 
 -- the entries of a call at the seat that it changed
 entries_at : (hs : List History) (j : ℕ) (h : History) (es : List Note) → slice_get hs j ≡ Some h → slice_get (slice_set (nothing hs) j es) j ≡ Some es
@@ -94,6 +99,7 @@ record TouchedBy (D : Doing) : Type 0 where
   pub touch : Option Touch
   pub adds : AddsFor D.old.worker D.old.number (is_first D.old) touch D.before.seats D.after.seats D.added
   pub touched : Touches D touch
+  pub closes : ClosesForCauses D touch touched
   pub faults : D.before.net.faults ≤ D.after.net.faults
   pub told : (c : Holding) → D.old.conn ≡ Some c → IfSome D.served (λ r. told_of (after_of D touch touched) ≡ told_of (conn_told D.old.conn))
 
@@ -131,6 +137,7 @@ by_none D None was adds there stays net = record {
   touch = None;
   adds = adds;
   touched = (record { conn = stays.0 ∙ sym was; course = net.course; dials = net.dials; buries = net.buries }, stays.1);
+  closes = tt;
   faults = net.faults;
   told = λ k is. absurd (none_some k (sym was ∙ is));
 }
@@ -159,6 +166,8 @@ by_none D (Some c) was adds there stays net =
         exchange = (k, stays.1, subst (λ (o : Option Holding). CameGoes Had o (Some (what_of_link (conn_link c))) k D.served) (sym was) e.goes);
         passed = ends_of D.old x (Some (what_of_link (conn_link c))) (Some (what_of_link (conn_link k))) D.served fits;
       };
+      closes = causes_none (λ m id front. ClosesFor (closing_call D at.0 front x (Some (what_of_link (conn_link c))) (Some (what_of_link (conn_link k))))) [] at.1
+          (subst CloseNone (sym (added_marks n first _ 0 D.before.seats D.after.seats D.added (conn_server c).0 at.1 adds at.3)) tt);
       faults = net.faults;
       told = λ q is. told_of_fits D.old x (Some (what_of_link (conn_link c))) (Some (what_of_link (conn_link k))) (conn_told D.old.conn) D.served (sym (ap (λ (o : Option Holding). told_of (conn_told o)) was)) fits;
     }
@@ -172,9 +181,9 @@ before_told s h x Had w c was t = ap told_by t.2 ∙ sym (ap (λ (o : Option Hol
 before_told s h x Opened w c was t = absurd (none_some c (sym t.0 ∙ was))
 before_told s h x (Took place uses) w c was t = absurd (none_some c (sym t.0 ∙ was))
 
-by_some : (D : Doing) (x : Touch) → D.new.worker ≡ D.old.worker → D.new.number ≡ D.old.number → AddsFor D.old.worker D.old.number (is_first D.old) (Some x) D.before.seats D.after.seats D.added
-    → WayAt D.old.worker D.old.number D.old.conn D.new.conn D.after.seats D.added D.before.net D.after.net x D.served → TouchedBy D
-by_some D x worker number adds way =
+by_some : (D : Doing) (x : Touch) (z : Outcome) → ComesOut z D.new D.left → D.new.worker ≡ D.old.worker → D.new.number ≡ D.old.number → AddsFor D.old.worker D.old.number (is_first D.old) (Some x) D.before.seats D.after.seats D.added
+    → WayAt D.old.worker D.old.number D.old.conn D.new.conn z D.after.seats D.added D.before.net D.after.net x D.served → TouchedBy D
+by_some D x o comes worker number adds way =
     let z = way.way D.old D.new refl refl worker number in
     record {
       touch = Some x;
@@ -185,14 +194,19 @@ by_some D x worker number adds way =
         exchange = z.1;
         passed = ends_of D.old x z.0.before z.0.after D.served z.2;
       };
+      closes = ⊎_elim
+          (λ closed. z.3 closed D.left refl comes)
+          (λ free. causes_none (λ m id front. ClosesFor (closing_call D way.history front x z.0.before z.0.after)) [] way.es
+          (subst CloseNone (sym (added_marks D.old.number (is_first D.old) _ 0 D.before.seats D.after.seats D.added x.server.0 way.es adds way.entries)) (free _)))
+          (closed_or_free D.old.worker D.old.number (is_first D.old) x);
       faults = way.faults;
       told = λ c is. told_of_fits D.old x z.0.before z.0.after (conn_told D.old.conn) D.served (before_told D.old way.history x x.came z.0.before c is z.0.was) z.2;
     }
 
-touched_by : (D : Doing) (x : Option Touch) → D.new.worker ≡ D.old.worker → D.new.number ≡ D.old.number → AddsFor D.old.worker D.old.number (is_first D.old) x D.before.seats D.after.seats D.added → IsAtSeat D.before.seats D.old.conn
-    → WayFor D.old.worker D.old.number D.old.conn D.new.conn D.after.seats D.added D.before.net D.after.net x D.served → TouchedBy D
-touched_by D None worker number adds there way = by_none D D.old.conn refl adds there way.0 way.1
-touched_by D (Some x) worker number adds there way = by_some D x worker number adds way
+touched_by : (D : Doing) (x : Option Touch) (z : Outcome) → ComesOut z D.new D.left → D.new.worker ≡ D.old.worker → D.new.number ≡ D.old.number → AddsFor D.old.worker D.old.number (is_first D.old) x D.before.seats D.after.seats D.added → IsAtSeat D.before.seats D.old.conn
+    → WayFor D.old.worker D.old.number D.old.conn D.new.conn z D.after.seats D.added D.before.net D.after.net x D.served → TouchedBy D
+touched_by D None z comes worker number adds there way = by_none D D.old.conn refl adds there way.0 way.1
+touched_by D (Some x) z comes worker number adds there way = by_some D x z comes worker number adds way
 
 held_at : (seats : List History) (n : SessionNo) (held : Option RestedNow) → HasHeld seats n held → IsAtSeat seats (resting held)
 held_at seats n None k = tt
@@ -217,18 +231,19 @@ links_of s s' before after added r loop holds t records = record {
     net = record { loop = loop; faults = t.faults };
     holds = holds;
   };
+  closes = t.closes;
   records = records_at s s' (conn_told s.conn) (after_of (doing s s' before after added r) t.touch t.touched) r.left r.served t.told records;
 }
 
 -- a step
 pub step_links : (front : ℕ) (d d' : DeskNow) (s s' : StageNow) (before after : Around) (r : Step) → d'.worker ≡ d.worker → d'.session ≡ d.session → after.net.loop_no ≡ before.net.loop_no → HasOwn before.seats d.session s
-    → HoldsAt (session_seen front d' s') 0 after.seats → SomeWay d.worker d.session (first_of d) (conn_seen s) (conn_seen s') before.seats after.seats before.net after.net r.served
+    → HoldsAt (session_seen front d' s') 0 after.seats → ComesOut (outcome_of s') (session_seen front d' s') r.left → SomeWay d.worker d.session (first_of d) (conn_seen s) (conn_seen s') (outcome_of s') before.seats after.seats before.net after.net r.served
     → RecordsTold (session_seen front d s) (session_seen front d' s') (conn_told (conn_seen s)) r.left r.served → StepLinks (session_seen front d s) (session_seen front d' s') before after r
-step_links front d d' s s' before after r worker session loop own holds w records =
+step_links front d d' s s' before after r worker session loop own holds comes w records =
     let o : SessionNow = session_seen front d s in
     let n : SessionNow = session_seen front d' s' in
     links_of o n before after w.at.added r loop holds
-    (touched_by (doing o n before after w.at.added r) w.touch worker session w.at.adds (own_at before.seats d.session s own) w.way) records
+    (touched_by (doing o n before after w.at.added r) w.touch (outcome_of s') comes worker session w.at.adds (own_at before.seats d.session s own) w.way) records
 
 -- a stop
 record StoppedBy (s s' : SessionNow) (before after : Around) (served : Option Served) (left : Leave) : Type 0 where

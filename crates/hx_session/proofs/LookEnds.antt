@@ -10,11 +10,10 @@ use Rattle.hx_message.specs.declared.FrameFault.{FrameFault}
 use Rattle.hx_message.specs.declared.MethodKind.{MethodKind}
 use Rattle.hx_message.specs.Body.{Framed, answer_kind}
 use Rattle.hx_message.specs.Forwarded.{BeginsInterims, IsInterim, IsFinal, forwarded_answer}
-use Rattle.hx_message.specs.Limits.{BeginsShortInterims, IsShort, IsShortAnswer, head_limit}
-use Rattle.hx_message.specs.Partial.{EndsRequest, HasShortAnswer}
+use Rattle.hx_message.specs.Limits.{BeginsShortInterims, IsShort, head_limit}
+use Rattle.hx_message.specs.Partial.{HasShortAnswer}
 use Rattle.hx_message.proofs.Unique.{interim_final}
 use Rattle.hx_head.specs.Causes.{RefusesAnswer}
-use Rattle.hx_head.specs.Heads.{IsAnswerAt}
 use Rattle.hx_head.specs.declared.head.AnswerHead.{AnswerHead}
 use Rattle.hx_head.specs.declared.refusal.Refusal.{Refusal}
 use Rattle.hx_head.specs.declared.refusal.Refusal.TheVariants.{NotAHead, TooLong, TooManyFields, Version, Status}

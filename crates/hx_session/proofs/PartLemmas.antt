@@ -14,9 +14,11 @@ use Rattle.hx_connecting.specs.Choosing.{servers_of}
 use Rattle.hx_connecting.specs.Closing.{HasHeld}
 use Rattle.hx_connecting.specs.Sessions as seen
 use Rattle.hx_session.specs.declared.stage.Came.{Came}
-use Rattle.hx_session.specs.declared.stage.Came.TheVariants.{Moved}
+use Rattle.hx_session.specs.declared.stage.Came.TheVariants.{On, Moved, Ends}
+use Rattle.hx_session.specs.declared.stage.Ending.{Ending}
 use Rattle.hx_session.specs.declared.stage.Stage.{Stage}
 use Rattle.hx_session.specs.declared.step.Waiting.{Waiting}
+use Rattle.hx_session.proofs.ClientLemmas.{client_then}
 use Rattle.hx_session.specs.Carried.{IsCarried}
 use Rattle.hx_session.specs.declared.moves.Move.{Move}
 use Rattle.hx_session.specs.Moves.{GivesClient, ReadsClient}
@@ -29,16 +31,18 @@ use Rattle.hx_connecting.specs.Ways.{GivesOwn, ExchangeStays, ToldStays}
 use Rattle.hx_session.specs.Parting.{PartTouches, CameKeeps, came_conn, came_served}
 use Rattle.hx_connecting.specs.Touched.{AllStand}
 use Rattle.hx_connecting.proofs.AddingLemmas.{holds_stand}
-use Rattle.hx_session.proofs.PartingLemmas.{part_from, parted, parted_behind, parted_none, counts_same, stage_part, went_way, parted_from}
+use Rattle.hx_session.proofs.PartingLemmas.{part_from, parted, parted_behind, parted_none, counts_same, stage_part, went_way}
 use Rattle.hx_session.proofs.StaysLemmas.{carries_told}
 use Rattle.hx_session.specs.Seen.{conn_seen, chosen_seen}
-use Rattle.hx_session.specs.Picking.{Picks}
-use Rattle.hx_session.proofs.PickLemmas.{picks_from, to_answer}
-use Rattle.hx_session.specs.Stages.{StageNow, Exchanging, StandsSo, IsBetween, own_stage, stage_now}
-use Rattle.hx_session.specs.Standing.{CamePlaced, CameRouted, Goes, ComesTo, IsNumbered, IsSet, IsPlaced, KeepsDesk, KeepsAsk, KeepsPlace, KeepsOver, IsSameConn, IsRoutedTo}
-use Rattle.hx_session.specs.Telling.{CameTells, IsStillTold, TellsMoved}
-use Rattle.hx_session.proofs.TellLemmas.{came_then}
-use Rattle.hx_session.proofs.StandingLemmas.{place_in, place_then, desk_none, answers_keep, answers_set, placed_on}
+use Rattle.hx_session.specs.Picking.{Picks, PicksTo}
+use Rattle.hx_session.proofs.PickLemmas.{picks_from, to_answer, to_same, to_choosing, on_same, ends_held}
+use Rattle.hx_session_parts.specs.Asks.{IsAsked}
+use Rattle.hx_session.specs.Fits.{GoesTo}
+use Rattle.hx_session.specs.Stages.{StageNow, ChoosingNow, Reading, Choosing, Exchanging, StandsSo, IsBetween, own_stage, stage_now}
+use Rattle.hx_session.specs.Standing.{server_held, IsLeaving, CamePlaced, CameRouted, Goes, ComesTo, IsNumbered, IsSet, IsPlaced, KeepsDesk, KeepsAsk, KeepsPlace, KeepsOver, IsSameConn, IsRoutedTo}
+use Rattle.hx_session.specs.Telling.{CameTells, IsStillTold, LeavesPlainly, TellsEnd, TellsMoved}
+use Rattle.hx_session.proofs.TellLemmas.{came_then, none_same, still_same}
+use Rattle.hx_session.proofs.StandingLemmas.{place_in, place_then, desk_none, answers_keep, answers_set, choosing_placed, choosing_routed, goes_ends, leaves_between, placed_on}
 
 -- the same stage at a desk whose client's link made a call
 pub set_desk : (d d' : DeskNow) (s : StageNow) (seats : List History) → IsSet d s seats → KeepsAsk d d' → StandsSo d' s → IsSet d' s seats
@@ -80,6 +84,55 @@ pub goes_same : {X : Type 0} (d d' : DeskNow) (stage : Stage X) (seats : List Hi
     → ((back : Back) → IsRoutedTo back (stage_now stage) → CameRouted back c) → PartTouches d (stage_now stage) seats net d' c seats net → IsPlaced d' (stage_now stage) seats → CameTells d (stage_now stage) d' c
     → Picks (conn_seen (stage_now stage)) (chosen_seen (stage_now stage)) seats c seats → Goes d (stage_now stage) seats net d' c seats net
 goes_same d d' stage seats net c k placed routed touches p told picks = record { placed = placed p; keeps = place_in d d' seats net k; touches = touches; picks = picks; routed = routed; told = told }
+
+-- the step goes on with the stage as it is
+pub goes_still : {X : Type 0} (d d2 : DeskNow) (stage : Stage X) (w : Waiting) (seats : List History) (net : NetState) → d2 ≡ d → IsPlaced d (stage_now stage) seats → Goes d (stage_now stage) seats net d2 (On stage w) seats net
+goes_still d d2 stage w seats net e p =
+    subst (λ (x : DeskNow). Goes d (stage_now stage) seats net x (On stage w) seats net) (sym e) (record {
+      placed = p;
+      keeps = place_in d d seats net (desk_none d);
+      touches = inl (refl, refl, refl, refl, tt);
+      picks = on_same seats stage w;
+      routed = λ back r. r;
+      told = still_same d (stage_now stage);
+    })
+
+-- it is over, with the stage as it is
+pub goes_moved : {X : Type 0} (d : DeskNow) (stage : Stage X) (w : Waiting) (seats : List History) (net : NetState) → IsPlaced d (stage_now stage) seats → Goes d (stage_now stage) seats net d (Moved stage w None) seats net
+goes_moved d stage w seats net p = record {
+  placed = p;
+  keeps = place_in d d seats net (desk_none d);
+  touches = inl (refl, refl, refl, tt, tt);
+  picks = to_same seats (stage_now stage);
+  routed = λ back r. r;
+  told = none_same d;
+}
+
+-- a request's head is there
+pub goes_choosing : {X : Type 0} (d d2 : DeskNow) (held : Option RestedNow) (c : ChoosingNow) (stage : Stage X) (w : Waiting) (seats : List History) (net : NetState) → d2 ≡ d → stage_now stage ≡ Choosing c → c.held ≡ held
+    → c.server ≡ server_held held → IsAsked d.from.bytes c.asked → IsPlaced d (Reading held) seats → Goes d (Reading held) seats net d2 (Moved stage w None) seats net
+goes_choosing d d2 held c stage w seats net e is same server asked p =
+    let its = server ∙ ap server_held (sym same) in
+    subst (λ (x : DeskNow). Goes d (Reading held) seats net x (Moved stage w None) seats net) (sym e) (record {
+      placed = subst (λ (x : StageNow). IsPlaced d x seats) (sym is) (choosing_placed d c seats asked its (subst (λ (h : Option RestedNow). IsPlaced d (Reading h) seats) (sym same) p));
+      keeps = place_in d d seats net (desk_none d);
+      touches = inl (refl, refl, ap conn_seen is ∙ ap resting same, tt, tt);
+      picks = subst (λ (x : StageNow). PicksTo (resting held) None seats x seats) (sym is) (to_choosing held seats c same server);
+      routed = λ back r. subst (λ (x : StageNow). IsRoutedTo back x) (sym is)
+          (subst (λ (h : Option RestedNow). GoesTo back (resting h) c.server) (sym same) (choosing_routed back held c.server server r));
+      told = none_same d;
+    })
+
+-- the session leaves while a head is read
+pub goes_away : {X : Type 0} (d d2 : DeskNow) (held : Option RestedNow) (c : Came X) (x : Ending X) (seats : List History) (net : NetState) → d2 ≡ d → c ≡ Ends x → x.held ≡ held → x.served ≡ None → LeavesPlainly x.cause
+    → IsBetween d → IsPlaced d (Reading held) seats → Goes d (Reading held) seats net d2 c seats net
+goes_away {X = X} d d2 held c x seats net e is same none plain between p =
+    subst (λ (y : DeskNow). Goes d (Reading held) seats net y c seats net) (sym e)
+    (goes_ends d d (Reading held) seats seats net net c x is (place_in d d seats net (desk_none d))
+    (subst (λ (h : Option RestedNow). IsLeaving d h seats) (sym same) (leaves_between d held seats between p.set.numbered p.set.around p.set.own))
+    (inl (refl, refl, ap resting same, tt, subst (λ (o : Option Served). GivesOwn o (resting held)) (sym none) tt))
+    (subst (λ (o : Option Served). TellsEnd (Reading held) d d o x.cause) (sym none) (none_same d, plain))
+    (ends_held held None seats x same))
 
 -- the connection's server stays
 pub conn_routed : (back : Back) (e e' : ExchangeNow) → IsSameConn e e' → IsRoutedTo back (Exchanging e) → IsRoutedTo back (Exchanging e')
@@ -163,7 +216,12 @@ place_turn a b xs ys zs x y k e = record { desk = k.desk; about = e ∙ k.about;
 
 pub over_then : (a b c : DeskNow) (xs ys zs : List History) (x y z : NetState) → KeepsPlace a b xs ys x y → KeepsOver b c ys zs y z → KeepsOver a c xs zs x z
 over_then a b c xs ys zs x y z k l = record {
-  who = record { worker = l.who.worker ∙ k.desk.who.worker; session = l.who.session ∙ k.desk.who.session; since = l.who.since ∙ k.desk.who.since };
+  who = record {
+    worker = l.who.worker ∙ k.desk.who.worker;
+    session = l.who.session ∙ k.desk.who.session;
+    since = l.who.since ∙ k.desk.who.since;
+    client = client_then a.client b.client c.client k.desk.who.client l.who.client;
+  };
   about = l.about ∙ k.about;
   loop_no = l.loop_no ∙ k.loop_no;
 }

@@ -1,5 +1,5 @@
 -- What the parts of a step touched, one behind another.
-use Rattle.std.specs.Prelude.{IfSome, []}
+use Rattle.std.specs.Prelude.{IfSome}
 use Rattle.std.proofs.Common.{◌≤◌, eqb, true, false, arith, eq-eqb, ne_eqb, ◌≡◌, ◌⊎◌, ℕ, ◌-◌, ◌==◌, Bool, List, refl, sym, ap, subst, ◌∙◌, inl, inr, Option, Some, None, ⊎_elim}
 use Rattle.std.proofs.lemmas.Bool.{eqb-true, eqb-false}
 use Rattle.hx_base.specs.declared.numbers.ThreadNo.{ThreadNo}
@@ -17,6 +17,7 @@ use Rattle.hx_connecting.specs.Around.{HasAround, resting}
 use Rattle.hx_connecting.specs.Sessions.{SessionNow, Holding, Resting, Exchanging as OnConn, is_first}
 use Rattle.hx_connecting.specs.Touched.{AllStand}
 use Rattle.hx_connecting.specs.Touches.{Touch}
+use Rattle.hx_connecting.specs.Outcomes.{Outcome, Leaving}
 use Rattle.hx_connecting.specs.Ways.{GivesOwn, StaysWith, StaysOn, ToldStays, ExchangeStays, WayFor, SomeWay}
 use Rattle.hx_connecting.proofs.AddingLemmas.{nothing, joined, adds_no_touch, adds_then, adds_are, adds_wanted}
 use Rattle.hx_connecting.proofs.AddedCalls.{touches_none, touches_stand, chooses_touches}
@@ -32,7 +33,7 @@ use Rattle.hx_session.specs.Beginning.{ChoosesServer, ChoosesIn}
 use Rattle.hx_session.specs.Desks.{DeskNow}
 use Rattle.hx_session.specs.Marking.{AddsMarks}
 use Rattle.hx_session.specs.Exchanged.{ExchangeNow}
-use Rattle.hx_session.specs.Parting.{first_of, came_conn, came_served, MayTouch, CountsOn, CameWay, CameKeeps, Parted, PartTouches, StageTouches, LetsGo}
+use Rattle.hx_session.specs.Parting.{first_of, came_conn, came_served, MayTouch, CountsOn, CameWay, CameKeeps, Parted, PartTouches, StageTouches, LetsGo, outcome_of}
 use Rattle.hx_session.specs.Seen.{conn_seen, session_seen}
 use Rattle.hx_session.specs.Stages.{StageNow, Reading, Choosing, Exchanging, Answering, Left, stage_now}
 
@@ -123,23 +124,23 @@ part_from d d1 d' s seats seats' net net' c t n e p = ⊎_elim
     p
 
 -- a part behind an exchange that went on
-pub for_behind : (t : ThreadNo) (n : SessionNo) (a b : BusyNow) (o : Option Holding) (news : List History) (added : List (List Note)) (net net' : NetState) (x : Option Touch) (served : Option Served) → ExchangeStays a b
-    → IfSome served (λ r. ToldStays a b) → WayFor t n (Some (OnConn b)) o news added net net' x served → WayFor t n (Some (OnConn a)) o news added net net' x served
-for_behind t n a b o news added net net' None served e told way = (stays_behind a b o served e told way.0, way.1)
-for_behind t n a b o news added net net' (Some x) served e told way = record {
+pub for_behind : (t : ThreadNo) (n : SessionNo) (a b : BusyNow) (o : Option Holding) (z : Outcome) (news : List History) (added : List (List Note)) (net net' : NetState) (x : Option Touch) (served : Option Served) → ExchangeStays a b
+    → IfSome served (λ r. ToldStays a b) → WayFor t n (Some (OnConn b)) o z news added net net' x served → WayFor t n (Some (OnConn a)) o z news added net net' x served
+for_behind t n a b o z news added net net' None served e told way = (stays_behind a b o served e told way.0, way.1)
+for_behind t n a b o z news added net net' (Some x) served e told way = record {
   history = way.history;
   es = way.es;
   seat = way.seat;
   entries = way.entries;
   faults = way.faults;
-  way = way_behind t n a b o way.history way.es net net' x served e told way.way;
+  way = way_behind t n a b o z way.history way.es net net' x served e told way.way;
 }
 
 came_behind : {X : Type 0} (came : Came X) (t : ThreadNo) (n : SessionNo) (a b : BusyNow) (news : List History) (added : List (List Note)) (net net' : NetState) (x : Option Touch) → ExchangeStays a b → CameKeeps came a b
     → CameWay came t n (Some (OnConn b)) news added net net' x → CameWay came t n (Some (OnConn a)) news added net net' x
 came_behind (On stage w) t n a b news added net net' x e told way = (on_then (Some (OnConn a)) (Some (OnConn b)) (conn_seen (stage_now stage)) (b, refl, e, told) way.0, way.1)
-came_behind (Moved stage w served) t n a b news added net net' x e told way = for_behind t n a b (conn_seen (stage_now stage)) news added net net' x served e told way
-came_behind (Ends y) t n a b news added net net' x e told way = for_behind t n a b (resting y.held) news added net net' x y.served e told way
+came_behind (Moved stage w served) t n a b news added net net' x e told way = for_behind t n a b (conn_seen (stage_now stage)) (outcome_of (stage_now stage)) news added net net' x served e told way
+came_behind (Ends y) t n a b news added net net' x e told way = for_behind t n a b (resting y.held) Leaving news added net net' x y.served e told way
 
 pub parted_behind : {X : Type 0} (d d1 d' : DeskNow) (e f : ExchangeNow) (seats seats' : List History) (net net' : NetState) (c : Came X) → d1.worker ≡ d.worker → d1.session ≡ d.session → d1.number ≡ d.number
     → ExchangeStays e.busy f.busy → CameKeeps c e.busy f.busy → Parted d1 (Exchanging f) seats net d' c seats' net' → Parted d (Exchanging e) seats net d' c seats' net'
@@ -152,8 +153,8 @@ came_joined : {X : Type 0} (came : Came X) (t : ThreadNo) (n : SessionNo) (first
     → AddsFor t n first None xs bs a → AddsFor t n first x bs cs b → StaysOn c k → mid ≡ old → CameWay came t n k cs b mid new x → CameWay came t n c cs (joined a b) old new x
 came_joined (On stage w) t n first c k xs bs cs a b old mid new x adds more on same way = (on_then c k (conn_seen (stage_now stage)) on way.0, way.1 ∙ same)
 came_joined (Moved stage w served) t n first c k xs bs cs a b old mid new x adds more on same way =
-    way_joined t n first (λ j. []) c k (conn_seen (stage_now stage)) xs bs cs a b old mid new x served adds more on same way
-came_joined (Ends y) t n first c k xs bs cs a b old mid new x adds more on same way = way_joined t n first (λ j. []) c k (resting y.held) xs bs cs a b old mid new x y.served adds more on same way
+    way_joined t n first c k (conn_seen (stage_now stage)) (outcome_of (stage_now stage)) xs bs cs a b old mid new x served adds more on same way
+came_joined (Ends y) t n first c k xs bs cs a b old mid new x adds more on same way = way_joined t n first c k (resting y.held) Leaving xs bs cs a b old mid new x y.served adds more on same way
 
 pub parts_then : {X : Type 0} (d0 d d' : DeskNow) (s0 : StageNow) (stage : Stage X) (w : Waiting) (seats0 seats seats' : List History) (net0 net net' : NetState) (c : Came X) → d.worker ≡ d0.worker → d.session ≡ d0.session
     → Parted d0 s0 seats0 net0 d (On stage w) seats net → PartTouches d (stage_now stage) seats net d' c seats' net' → Parted d0 s0 seats0 net0 d' c seats' net'
@@ -171,18 +172,18 @@ parts_then d0 d d' s0 stage w seats0 seats seats' net0 net net' c t n p q =
 
 -- what the session still had is closed, and its client's link is detached
 lets_go : (t : ThreadNo) (n : SessionNo) (first : Bool) (c : Option Holding) (x : Option Touch) (held : Option RestedNow) (seats0 seats seats' : List History) (net0 net net' : NetState) (client client' : LinkState)
-    (served : Option Served) (k : TouchesSeats t n first x seats0 seats) → (x ≡ None) ⊎ (held ≡ None) → WayFor t n c (resting held) seats k.added net0 net x served → HasAround t n (resting held) seats
-    → LetsGo n held seats seats' net net' client client' → SomeWay t n first c None seats0 seats' net0 net' served
+    (served : Option Served) (k : TouchesSeats t n first x seats0 seats) → (x ≡ None) ⊎ (held ≡ None) → WayFor t n c (resting held) Leaving seats k.added net0 net x served → HasAround t n (resting held) seats
+    → LetsGo n held seats seats' net net' client client' → SomeWay t n first c None Leaving seats0 seats' net0 net' served
 lets_go t n first c x None seats0 seats seats' net0 net net' client client' served k may way a go =
     let faults : OnlyFaults net net' = subst (λ (s : NetState). OnlyFaults s net') go.closes.1 go.detaches.0 in
     record {
       touch = x;
       at = record { added = k.added; adds = subst (λ (hs : List History). AddsFor t n first x seats0 hs k.added) (sym go.closes.0) k.adds };
-      way = subst (λ (hs : List History). WayFor t n c None hs k.added net0 net' x served) (sym go.closes.0) (for_faults t n c None seats k.added net0 net net' x served faults way);
+      way = subst (λ (hs : List History). WayFor t n c None Leaving hs k.added net0 net' x served) (sym go.closes.0) (for_faults t n c None Leaving seats k.added net0 net net' x served faults way);
     }
 lets_go t n first c x (Some r) seats0 seats seats' net0 net net' client client' served k may way a go = ⊎_elim
     (λ none.
-    let stays = subst (λ (o : Option Touch). WayFor t n c (Some (Resting r)) seats k.added net0 net o served) none way in
+    let stays = subst (λ (o : Option Touch). WayFor t n c (Some (Resting r)) Leaving seats k.added net0 net o served) none way in
     let adds : AddsFor t n first None seats0 seats k.added = subst (λ (o : Option Touch). AddsFor t n first o seats0 seats k.added) none k.adds in
     held_then t n first c r seats0 seats seats' k.added net0 net go.between net' served a adds stays.0 stays.1 go.meaning go.closes go.detaches.0)
     (λ (none : Some r ≡ None). cc)
@@ -191,7 +192,7 @@ lets_go t n first c x (Some r) seats0 seats seats' net0 net net' client client' 
 -- the step's end, where the session leaves
 pub leaves_then : {X : Type 0} (d0 d : DeskNow) (s0 : StageNow) (e : Ending X) (seats0 seats seats' : List History) (net0 net net' : NetState) (client client' : LinkState) → d.worker ≡ d0.worker → d.session ≡ d0.session
     → HasAround d.worker d.session (resting e.held) seats → LetsGo d.session e.held seats seats' net net' client client' → Parted d0 s0 seats0 net0 d (Ends e) seats net
-    → SomeWay d0.worker d0.session (first_of d0) (conn_seen s0) None seats0 seats' net0 net' e.served
+    → SomeWay d0.worker d0.session (first_of d0) (conn_seen s0) None Leaving seats0 seats' net0 net' e.served
 leaves_then d0 d s0 e seats0 seats seats' net0 net net' client client' t n a k p =
     lets_go d0.worker d0.session (first_of d0) (conn_seen s0) p.touch e.held seats0 seats seats' net0 net net' client client' e.served p.at p.may p.way
     (subst (λ (v : ThreadNo). HasAround v d0.session (resting e.held) seats) t (subst (λ (v : SessionNo). HasAround d.worker v (resting e.held) seats) n a))
@@ -199,11 +200,11 @@ leaves_then d0 d s0 e seats0 seats seats' net0 net net' client client' t n a k p
 
 -- and where it goes on
 pub moves_then : {X : Type 0} (d0 d : DeskNow) (s0 : StageNow) (stage : Stage X) (w : Waiting) (served : Option Served) (seats0 seats : List History) (net0 net : NetState) → Parted d0 s0 seats0 net0 d (Moved stage w served) seats net
-    → SomeWay d0.worker d0.session (first_of d0) (conn_seen s0) (conn_seen (stage_now stage)) seats0 seats net0 net served
+    → SomeWay d0.worker d0.session (first_of d0) (conn_seen s0) (conn_seen (stage_now stage)) (outcome_of (stage_now stage)) seats0 seats net0 net served
 moves_then d0 d s0 stage w served seats0 seats net0 net p = record { touch = p.touch; at = p.at; way = p.way }
 
 pub stands_then : {X : Type 0} (d0 d : DeskNow) (s0 : StageNow) (stage : Stage X) (w : Waiting) (seats0 seats : List History) (net0 net : NetState) → Parted d0 s0 seats0 net0 d (On stage w) seats net
-    → SomeWay d0.worker d0.session (first_of d0) (conn_seen s0) (conn_seen (stage_now stage)) seats0 seats net0 net None
+    → SomeWay d0.worker d0.session (first_of d0) (conn_seen s0) (conn_seen (stage_now stage)) (outcome_of (stage_now stage)) seats0 seats net0 net None
 stands_then d0 d s0 stage w seats0 seats net0 net p = record {
   touch = None;
   at = subst (λ (o : Option Touch). TouchesSeats d0.worker d0.session (first_of d0) o seats0 seats) p.may p.at;

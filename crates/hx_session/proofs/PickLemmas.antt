@@ -22,7 +22,7 @@ use Rattle.hx_session.specs.declared.stage.Ending.{Ending}
 use Rattle.hx_session.specs.declared.stage.Stage.{Stage}
 use Rattle.hx_session.specs.declared.step.Waiting.{Waiting}
 use Rattle.hx_session.specs.Beginning.{ChoosesServer, ChoosesIn}
-use Rattle.hx_session.specs.Picking.{IsSameKind, ChangesAt, CallsAt, KeepsServer, PicksTo, Picks, ConnectsStage, or_chose, TakesTurn, PicksSo, PicksAll}
+use Rattle.hx_session.specs.Picking.{IsSameKind, ChangesAt, CallsAt, KeepsServer, PicksTo, Picks, ConnectsStage, or_chose, PicksSo}
 use Rattle.hx_session.specs.Seen.{conn_seen, chosen_seen, own_seen, over_seen, unless_held}
 use Rattle.hx_session.specs.Stages.{StageNow, ChoosingNow, Reading, Choosing, Exchanging, Answering, Left, stage_now, own_stage}
 use Rattle.hx_session.specs.Standing.{GoesToHeld, IsGood, server_held}

@@ -7,6 +7,8 @@ use Rattle.hx_link.specs.Told.{LinkState}
 use Rattle.hx_link.specs.Links.{LinkReads, LinkWrites}
 use Rattle.hx_link.specs.Pipes.{pipe}
 use Rattle.hx_session.proofs.BreakLemmas.{going_unbroken}
+use Rattle.hx_session.proofs.ClientLemmas.{client_is, client_read, client_written}
+use Rattle.hx_session.specs.Doings.{IsSameClient}
 use Rattle.hx_session.specs.declared.moves.Move.{Move}
 use Rattle.hx_session.specs.declared.moves.Move.TheVariants.{Idle, Bytes, Waits, Ended, Failed}
 use Rattle.hx_session.specs.Since.{HasSince}
@@ -18,42 +20,43 @@ use Rattle.hx_session.specs.Still.{WantsClient}
 use Rattle.hx_session.proofs.SinceLemmas.{since_same, reads_since, read_sends}
 use Rattle.hx_session.proofs.StandLemmas.{SameBytes, stands_same, stands_waiting, stands_idle, stands_given}
 
-keeps_of : (d d' : DeskNow) → d'.worker ≡ d.worker → d'.session ≡ d.session → d'.since ≡ d.since → d'.client.on_loop ≡ d.client.on_loop → d'.number ≡ d.number → d'.ask_from ≡ d.ask_from → d.taken ≤ d'.taken → KeepsAsk d d'
-keeps_of d d' worker session since loop number from taken = record {
-  desk = record { who = record { worker = worker; session = session; since = since }; on_loop = loop };
+keeps_of : (d d' : DeskNow) → d'.worker ≡ d.worker → d'.session ≡ d.session → d'.since ≡ d.since → IsSameClient d.client d'.client → d'.client.on_loop ≡ d.client.on_loop → d'.number ≡ d.number → d'.ask_from ≡ d.ask_from
+    → d.taken ≤ d'.taken → KeepsAsk d d'
+keeps_of d d' worker session since client loop number from taken = record {
+  desk = record { who = record { worker = worker; session = session; since = since; client = client }; on_loop = loop };
   number = number;
   ask_from = from;
   taken = taken;
 }
 
 -- the desk with another link, which is attached as it was
-keeps_client : (d d' : DeskNow) → d' ≡ with_client d d'.client → d'.client.on_loop ≡ d.client.on_loop → KeepsAsk d d'
-keeps_client d d' e loop = keeps_of d d' (ap (λ (x : DeskNow). x.worker) e) (ap (λ (x : DeskNow). x.session) e) (ap (λ (x : DeskNow). x.since) e) loop
+keeps_client : (d d' : DeskNow) → d' ≡ with_client d d'.client → IsSameClient d.client d'.client → d'.client.on_loop ≡ d.client.on_loop → KeepsAsk d d'
+keeps_client d d' e client loop = keeps_of d d' (ap (λ (x : DeskNow). x.worker) e) (ap (λ (x : DeskNow). x.session) e) (ap (λ (x : DeskNow). x.since) e) client loop
     (ap (λ (x : DeskNow). x.number) e) (ap (λ (x : DeskNow). x.ask_from) e) (omega (arith, ap (λ (x : DeskNow). x.taken) e))
 
 keeps_same : (d d' : DeskNow) → d' ≡ d → KeepsAsk d d'
-keeps_same d d' e = keeps_of d d' (ap (λ (x : DeskNow). x.worker) e) (ap (λ (x : DeskNow). x.session) e) (ap (λ (x : DeskNow). x.since) e) (ap (λ (x : DeskNow). x.client.on_loop) e)
+keeps_same d d' e = keeps_of d d' (ap (λ (x : DeskNow). x.worker) e) (ap (λ (x : DeskNow). x.session) e) (ap (λ (x : DeskNow). x.since) e) (client_is d.client d'.client (ap (λ (x : DeskNow). x.client) e)) (ap (λ (x : DeskNow). x.client.on_loop) e)
     (ap (λ (x : DeskNow). x.number) e) (ap (λ (x : DeskNow). x.ask_from) e) (omega (arith, ap (λ (x : DeskNow). x.taken) e))
 
 pub gives_keep : (d d' : DeskNow) (now : ℕ) (m : Move) → GivesClient d d' now m → KeepsAsk d d'
 gives_keep d d' now Idle g = keeps_same d d' g.0
 gives_keep d d' now Bytes g = let e = g.desk in
-    keeps_of d d' (ap (λ (x : DeskNow). x.worker) e) (ap (λ (x : DeskNow). x.session) e) (ap (λ (x : DeskNow). x.since) e) (ap (λ (l : LinkState). l.on_loop) g.writes)
+    keeps_of d d' (ap (λ (x : DeskNow). x.worker) e) (ap (λ (x : DeskNow). x.session) e) (ap (λ (x : DeskNow). x.since) e) (client_written d.client d'.client now (put.Bytes (length g.given)) g.given g.writes) (ap (λ (l : LinkState). l.on_loop) g.writes)
     (ap (λ (x : DeskNow). x.number) e) (ap (λ (x : DeskNow). x.ask_from) e) (omega (arith, ap (λ (x : DeskNow). x.taken) e))
-gives_keep d d' now Waits g = keeps_client d d' g.0 (ap (λ (l : LinkState). l.on_loop) g.1.0)
+gives_keep d d' now Waits g = keeps_client d d' g.0 (client_written d.client d'.client now put.NotYet [] g.1) (ap (λ (l : LinkState). l.on_loop) g.1.0)
 gives_keep d d' now Ended g = absurd g
-gives_keep d d' now Failed g = keeps_client d d' g.0 (ap (λ (l : LinkState). l.on_loop) g.1.0)
+gives_keep d d' now Failed g = keeps_client d d' g.0 (client_written d.client d'.client now put.Failed [] g.1) (ap (λ (l : LinkState). l.on_loop) g.1.0)
 
 pub reads_keep : (d d' : DeskNow) (now : ℕ) (m : Move) → ReadsClient d d' now m → KeepsAsk d d'
 reads_keep d d' now Idle g = keeps_same d d' g.0
 reads_keep d d' now Bytes g = let e = g.desk in
-    keeps_of d d' (ap (λ (x : DeskNow). x.worker) e) (ap (λ (x : DeskNow). x.session) e) (ap (λ (x : DeskNow). x.since) e) (ap (λ (l : LinkState). l.on_loop) g.reads)
+    keeps_of d d' (ap (λ (x : DeskNow). x.worker) e) (ap (λ (x : DeskNow). x.session) e) (ap (λ (x : DeskNow). x.since) e) (client_read d.client d'.client now (got.Bytes (length g.taken)) g.taken g.reads) (ap (λ (l : LinkState). l.on_loop) g.reads)
     (ap (λ (x : DeskNow). x.number) e) (ap (λ (x : DeskNow). x.ask_from) e) (omega (arith, ap (λ (x : DeskNow). x.taken) e))
-reads_keep d d' now Waits g = keeps_client d d' g.0 (ap (λ (l : LinkState). l.on_loop) g.1.0)
+reads_keep d d' now Waits g = keeps_client d d' g.0 (client_read d.client d'.client now got.NotYet [] g.1) (ap (λ (l : LinkState). l.on_loop) g.1.0)
 reads_keep d d' now Ended g = let e = g.0 in
-    keeps_of d d' (ap (λ (x : DeskNow). x.worker) e) (ap (λ (x : DeskNow). x.session) e) (ap (λ (x : DeskNow). x.since) e) (ap (λ (l : LinkState). l.on_loop) g.1)
+    keeps_of d d' (ap (λ (x : DeskNow). x.worker) e) (ap (λ (x : DeskNow). x.session) e) (ap (λ (x : DeskNow). x.since) e) (client_read d.client d'.client now got.End [] g.1) (ap (λ (l : LinkState). l.on_loop) g.1)
     (ap (λ (x : DeskNow). x.number) e) (ap (λ (x : DeskNow). x.ask_from) e) (omega (arith, ap (λ (x : DeskNow). x.taken) e))
-reads_keep d d' now Failed g = keeps_client d d' g.0 (ap (λ (l : LinkState). l.on_loop) g.1.0)
+reads_keep d d' now Failed g = keeps_client d d' g.0 (client_read d.client d'.client now got.Failed [] g.1) (ap (λ (l : LinkState). l.on_loop) g.1.0)
 
 write_failed : (old new : LinkState) (now : ℕ) → LinkWrites old new now put.Failed [] → SameBytes old new
 write_failed old new now w = record {

@@ -24,6 +24,7 @@ use Rattle.hx_connecting.specs.Closing.{AtSeat, HasHeld}
 use Rattle.hx_connecting.specs.Sessions.{Exchanging}
 use Rattle.hx_connecting.specs.Settling.{MaySettle, RestsAs}
 use Rattle.hx_connecting.proofs.AroundLemmas.{just_here, one_here, numbered_here}
+use Rattle.hx_session.proofs.ClientLemmas.{client_self}
 use Rattle.hx_session.specs.declared.exchange.BodyWay.{BodyWay}
 use Rattle.hx_session.specs.Carried.{IsCarried}
 use Rattle.hx_session.specs.Desks.{DeskNow}
@@ -164,7 +165,7 @@ passed_placed d d3 e b ask_to down q seats news p over asks is same around own =
 
 pub passed_keeps : (d d3 : DeskNow) (ask_to : ℕ) (down : PipeNow) → d3 ≡ record (after_record d ask_to) { down = down } → KeepsDesk d d3
 passed_keeps d d3 ask_to down same =
-    subst (λ (x : DeskNow). KeepsDesk d x) (sym same) (record { who = record { worker = refl; session = refl; since = refl }; on_loop = refl })
+    subst (λ (x : DeskNow). KeepsDesk d x) (sym same) (record { who = record { worker = refl; session = refl; since = refl; client = client_self d.client }; on_loop = refl })
 
 -- the server of what rests with the session
 pub rests_to : (olds news : List History) (n : SessionNo) (b b' : BusyNow) (net net' : NetState) (q : Option RestedNow) → b'.server ≡ b.server → RestsAs olds news n b' net net' q → RestsTo b.server q

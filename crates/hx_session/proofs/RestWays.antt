@@ -25,14 +25,16 @@ use Rattle.hx_session.specs.declared.stage.Came.TheVariants.{On, Moved, Ends}
 use Rattle.hx_session.specs.Desks.{DeskNow}
 use Rattle.hx_session.specs.Exchanged.{ExchangeNow}
 use Rattle.hx_session.specs.Over.{carried_of}
-use Rattle.hx_session.specs.Parting.{CameWay, RestsSo}
+use Rattle.hx_connecting.specs.Outcomes.{Outcome, Leaving}
+use Rattle.hx_session.specs.Stages.{stage_now}
+use Rattle.hx_session.specs.Parting.{CameWay, RestsSo, came_outcome, outcome_of}
 use Rattle.hx_session.specs.Standing.{GoesToHeld}
 use Rattle.hx_session.specs.Telling.{GivesPassed}
 use Rattle.hx_session.proofs.EndingLemmas.{passed_ends}
 use Rattle.hx_session.proofs.PartingLemmas.{for_behind}
 use Rattle.hx_session.proofs.StaysLemmas.{ended_stays}
 
-kind_of : (d d1 : DeskNow) (e : ExchangeNow) (r : Served) (k : GivesPassed d d1 e r) → r.kind ≡ kind.Passed (carried_of e k.took_to)
+pub kind_of : (d d1 : DeskNow) (e : ExchangeNow) (r : Served) (k : GivesPassed d d1 e r) → r.kind ≡ kind.Passed (carried_of e k.took_to)
 kind_of d d1 e r k = ap (λ (x : Served). x.kind) k.gives.served
 
 pub is_passed : (d d1 : DeskNow) (e : ExchangeNow) (r : Served) → GivesPassed d d1 e r → IsPassed (Some r)
@@ -53,25 +55,25 @@ passed_for d d1 e b persistent r k is busy none = λ s x was.
     subst (λ (z : Kind). PassedEnds s x (Some (what_of_link (rested_of b).link)) z) (sym (kind_of d d1 e r k)) (ends_at e b persistent k.took_to is busy k.counted none s x was)
 
 -- the same of the exchange before its answer's end was noted
-pub rest_behind : (t : ThreadNo) (n m : SessionNo) (first : Bool) (b b' : BusyNow) (persistent : Bool) (len : ℕ) (olds news : List History) (net net' : NetState) (held : Option RestedNow) (served : Option Served) → n ≡ m
-    → b' ≡ answer_ended b len persistent → RestWay t n first (Some (OnConn b')) olds news net net' held served → RestWay t m first (Some (OnConn b)) olds news net net' held served
-rest_behind t n m first b b' persistent len olds news net net' held served same is w =
+pub rest_behind : (t : ThreadNo) (n m : SessionNo) (first : Bool) (z : Outcome) (b b' : BusyNow) (persistent : Bool) (len : ℕ) (olds news : List History) (net net' : NetState) (held : Option RestedNow) (served : Option Served) → n ≡ m
+    → b' ≡ answer_ended b len persistent → RestWay t n first (Some (OnConn b')) z olds news net net' held served → RestWay t m first (Some (OnConn b)) z olds news net net' held served
+rest_behind t n m first z b b' persistent len olds news net net' held served same is w =
     let told = told_if served (ap (λ (x : BusyNow). (what_of_link x.link).told) is) in
-    subst (λ (v : SessionNo). RestWay t v first (Some (OnConn b)) olds news net net' held served) same (record {
+    subst (λ (v : SessionNo). RestWay t v first (Some (OnConn b)) z olds news net net' held served) same (record {
       touch = w.touch;
       may = w.may;
       at = w.at;
-      way = for_behind t n b b' (resting held) news w.at.added net net' w.touch served (ended_stays b b' len persistent is) told w.way;
+      way = for_behind t n b b' (resting held) z news w.at.added net net' w.touch served (ended_stays b b' len persistent is) told w.way;
     })
 
 -- behind the part that gives the record
 pub rests_came : {X : Type 0} (came : Came X) (t : ThreadNo) (n : SessionNo) (c : Option Holding) (news : List History) (added : List (List Note)) (net net' : NetState) (x : Option Touch) (held : Option RestedNow) (r : Served)
-    → RestsSo came held r → WayFor t n c (resting held) news added net net' x (Some r) → CameWay came t n c news added net net' x
+    → RestsSo came held r → WayFor t n c (resting held) (came_outcome came) news added net net' x (Some r) → CameWay came t n c news added net net' x
 rests_came (On stage w) t n c news added net net' x held r k way = absurd k
 rests_came (Moved stage w served) t n c news added net net' x held r k way =
-    subst (λ (o : Option Holding). WayFor t n c o news added net net' x served) (sym k.0) (subst (λ (o : Option Served). WayFor t n c (resting held) news added net net' x o) (sym k.1) way)
+    subst (λ (o : Option Holding). WayFor t n c o (outcome_of (stage_now stage)) news added net net' x served) (sym k.0) (subst (λ (o : Option Served). WayFor t n c (resting held) (outcome_of (stage_now stage)) news added net net' x o) (sym k.1) way)
 rests_came (Ends e) t n c news added net net' x held r k way =
-    subst (λ (o : Option RestedNow). WayFor t n c (resting o) news added net net' x e.served) (sym k.0) (subst (λ (o : Option Served). WayFor t n c (resting held) news added net net' x o) (sym k.1) way)
+    subst (λ (o : Option RestedNow). WayFor t n c (resting o) Leaving news added net net' x e.served) (sym k.0) (subst (λ (o : Option Served). WayFor t n c (resting held) Leaving news added net net' x o) (sym k.1) way)
 
 some_same : (a b : ServerNo) → Some a ≡ Some b → b ≡ a
 some_same a b e = cc

@@ -18,6 +18,7 @@ use Rattle.hx_connecting.specs.Choosing.{servers_of}
 use Rattle.hx_connecting.specs.Closing.{AtSeat, HasHeld}
 use Rattle.hx_connecting.specs.Sessions as seen
 use Rattle.hx_connecting.proofs.BusyLemmas.{around_busy}
+use Rattle.hx_session.proofs.ClientLemmas.{client_self, client_is, client_then}
 use Rattle.hx_session.specs.Carried.{IsCarried}
 use Rattle.hx_session.specs.Desks.{DeskNow, IsDesk, emptied}
 use Rattle.hx_session.specs.Ending.{GaveNothing, AnswersOwn, CutsOff}
@@ -36,14 +37,19 @@ use Rattle.hx_session.specs.Telling.{CameTells, TellsEnd}
 use Rattle.hx_session.specs.Standing.{CamePlaced, CameRouted, Goes, IsNumbered, IsSet, IsPlaced, IsLeaving, KeepsDesk, KeepsAsk, KeepsPlace, IsSameConn, server_held, GoesToHeld}
 
 pub desk_none : (d : DeskNow) → KeepsDesk d d
-desk_none d = record { who = record { worker = refl; session = refl; since = refl }; on_loop = refl }
+desk_none d = record { who = record { worker = refl; session = refl; since = refl; client = client_self d.client }; on_loop = refl }
 
 pub desk_is : (d d' : DeskNow) → d' ≡ d → KeepsDesk d d'
 desk_is d d' e = subst (λ (x : DeskNow). KeepsDesk d x) (sym e) (desk_none d)
 
 pub desk_then : (a b c : DeskNow) → KeepsDesk a b → KeepsDesk b c → KeepsDesk a c
 desk_then a b c x y = record {
-  who = record { worker = y.who.worker ∙ x.who.worker; session = y.who.session ∙ x.who.session; since = y.who.since ∙ x.who.since };
+  who = record {
+    worker = y.who.worker ∙ x.who.worker;
+    session = y.who.session ∙ x.who.session;
+    since = y.who.since ∙ x.who.since;
+    client = client_then a.client b.client c.client x.who.client y.who.client;
+  };
   on_loop = y.on_loop ∙ x.on_loop;
 }
 
@@ -56,7 +62,12 @@ place_then a b c xs ys zs x y z k l = record { desk = desk_then a b c k.desk l.d
 -- an own answer that is decided
 pub answers_keep : (d d' : DeskNow) (status : ℕ) → AnswersOwn d d' status → KeepsDesk d d'
 answers_keep d d' status a = record {
-  who = record { worker = ap (λ (x : DeskNow). x.worker) a.desk; session = ap (λ (x : DeskNow). x.session) a.desk; since = ap (λ (x : DeskNow). x.since) a.desk };
+  who = record {
+    worker = ap (λ (x : DeskNow). x.worker) a.desk;
+    session = ap (λ (x : DeskNow). x.session) a.desk;
+    since = ap (λ (x : DeskNow). x.since) a.desk;
+    client = client_is d.client d'.client (ap (λ (x : DeskNow). x.client) a.desk);
+  };
   on_loop = ap (λ (x : DeskNow). x.client.on_loop) a.desk;
 }
 
@@ -152,10 +163,15 @@ cut_leaves d d1 d2 e why served seats seats' k is set around =
       own = tt;
     })
 
+pub cut_kept : (d d1 : DeskNow) (e : ExchangeNow) (why : CutCause) (served : Served) → CutsOff d d1 e why served → KeepsDesk d d1
+cut_kept d d1 e why served k =
+    subst (λ (x : DeskNow). KeepsDesk d x) (sym k.desk) (record { who = record { worker = refl; session = refl; since = refl; client = client_self d.client }; on_loop = refl })
+
+emptied_kept : (d : DeskNow) → KeepsDesk d (emptied d)
+emptied_kept d = record { who = record { worker = refl; session = refl; since = refl; client = client_self d.client }; on_loop = refl }
+
 pub cut_keeps : (d d1 d2 : DeskNow) (e : ExchangeNow) (why : CutCause) (served : Served) → CutsOff d d1 e why served → d2 ≡ emptied d1 → KeepsDesk d d2
-cut_keeps d d1 d2 e why served k is =
-    let same : d2 ≡ emptied (record (after_record d k.ask_to) { down = d1.down }) = is ∙ ap emptied k.desk in
-    subst (λ (x : DeskNow). KeepsDesk d x) (sym same) (record { who = record { worker = refl; session = refl; since = refl }; on_loop = refl })
+cut_keeps d d1 d2 e why served k is = desk_then d d1 d2 (cut_kept d d1 e why served k) (subst (λ (x : DeskNow). KeepsDesk d1 x) (sym is) (emptied_kept d1))
 
 -- an exchange that goes on
 pub set_on : (d d' : DeskNow) (e e' : ExchangeNow) (seats : List History) → IsSet d (Exchanging e) seats → KeepsAsk d d' → IsSameConn e e' → IsCarried d' e'
@@ -211,6 +227,8 @@ own_leaves d d1 d2 status held seats first then p =
       own = p.set.own;
     })
 
+pub own_kept : (d d1 : DeskNow) → d1 ≡ after_record d d.taken → KeepsDesk d d1
+own_kept d d1 first = subst (λ (x : DeskNow). KeepsDesk d x) (sym first) (record { who = record { worker = refl; session = refl; since = refl; client = client_self d.client }; on_loop = refl })
+
 pub own_keeps : (d d1 d2 : DeskNow) → d1 ≡ after_record d d.taken → d2 ≡ emptied d1 → KeepsDesk d d2
-own_keeps d d1 d2 first then =
-    subst (λ (x : DeskNow). KeepsDesk d x) (sym (then ∙ ap emptied first)) (record { who = record { worker = refl; session = refl; since = refl }; on_loop = refl })
+own_keeps d d1 d2 first then = desk_then d d1 d2 (own_kept d d1 first) (subst (λ (x : DeskNow). KeepsDesk d1 x) (sym then) (emptied_kept d1))

@@ -1,5 +1,5 @@
 -- From the servers that were asked in turn to the gates among a call's entries, and the choice that they show.
-use Rattle.std.proofs.Common.{◌≡◌, ◌⊎◌, ◌≤◌, ◌<◌, ◌+◌, ◌-◌, ◌%◌, ℕ, zero, suc, Bool, true, false, eqb, not, List, [], ◌∷◌, ◌++◌, length, map, get_or, refl, sym, ap, subst, ◌∙◌, inl, inr, arith, append_assoc, Option, Some, None, ⊎_elim}
+use Rattle.std.proofs.Common.{◌≡◌, ◌⊎◌, ◌≤◌, ◌<◌, ◌+◌, ◌-◌, ◌%◌, ℕ, zero, suc, Bool, true, false, eqb, not, List, [], ◌∷◌, ◌++◌, length, map, get_or, refl, sym, ap, subst, ◌∙◌, inl, inr, arith, append_assoc, Option, Some, ⊎_elim}
 use Rattle.std.specs.Prelude.{nat_lt, if◌then◌else◌, option_map}
 use Rattle.std.specs.List.{slice_get, slice_set}
 use Rattle.std.proofs.lemmas.Bool.{ltb-true, ltb-false, eqb-true, eqb-false}
@@ -7,7 +7,6 @@ use Rattle.std.proofs.lemmas.List.{append-nil, append_cancel_left, length-append
 use Rattle.std.proofs.lemmas.Option.{slice_get-map, slice_get-get_or, slice_get_within}
 use Rattle.std.proofs.Math.Nat.{mod-eq_of_lt, mod-eq-sub-mod}
 use Rattle.hx_base.specs.declared.numbers.ServerNo.{ServerNo}
-use Rattle.hx_base.specs.declared.numbers.SessionNo.{SessionNo}
 use Rattle.hx_base.specs.declared.numbers.ThreadNo.{ThreadNo}
 use Rattle.hx_config.specs.declared.parts.Server.{Server}
 use Rattle.hx_pool.specs.Causes.{Among}
@@ -15,11 +14,10 @@ use Rattle.hx_pool.specs.declared.entries.Entry.{Entry}
 use Rattle.hx_pool.specs.declared.entries.Entry.TheVariants.{Gate}
 use Rattle.hx_pool.specs.declared.entries.Note.{Note}
 use Rattle.hx_pool.specs.History.{plain, marks_of}
-use Rattle.hx_pool.specs.Opening.{ReadsGate}
 use Rattle.hx_pool.specs.SeatView.{History, Makes}
 use Rattle.hx_pool.proofs.Histories.{marks_of-append}
 use Rattle.hx_pool.proofs.Purges.{among_left, among_right}
-use Rattle.hx_connecting.specs.Choice.{in_turn, next_turn, at_of, AskedAll, ChoosesReady}
+use Rattle.hx_connecting.specs.Choice.{in_turn, at_of, AskedAll, ChoosesReady}
 use Rattle.hx_connecting.specs.Choosing.{ShowsGate, Chooses}
 use Rattle.hx_connecting.specs.Touches.{AddsEach}
 use Rattle.hx_connecting.proofs.AroundLemmas.{seat_set}

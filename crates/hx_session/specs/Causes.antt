@@ -22,9 +22,13 @@ pub record Limits : Type 0 where
   pub connect : Option Millis
   pub server : Option Millis
 
--- the timeout can have come since the session's admission: it is set, isn't 0, and the moment is at least so late
+-- the timeout has come by that moment, counted from another one: it is set and isn't 0
+abbrev pub HasCome : Option Millis → ℕ → ℕ → Type 0
+HasCome limit since now = IsSomeAnd limit (λ m. (0 < m.0) × (since + m.0 ≤ now))
+
+-- it can have come, counted from the session's admission
 abbrev pub CanBeLate : Option Millis → SessionNow → ℕ → Type 0
-CanBeLate limit s now = IsSomeAnd limit (λ m. (0 < m.0) × (s.since + m.0 ≤ now))
+CanBeLate limit s now = HasCome limit s.since now
 
 -- the bytes taken of the client after the last record
 abbrev pub OfAsk : SessionNow → (List ℕ → Type 0) → Type 0

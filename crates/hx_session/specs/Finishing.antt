@@ -1,5 +1,5 @@
 -- What an exchange does next, and how one that passed ends.
-use Rattle.std.specs.Prelude.{◌≡◌, ◌⊎◌, ℕ, ◌+◌, Bool, true, [], length, Option, Some, None, ⊤}
+use Rattle.std.specs.Prelude.{◌≡◌, ◌⊎◌, ℕ, ◌+◌, ◌&&◌, not, Bool, true, [], length, Option, Some, None, ⊤}
 use Rattle.hx_base.specs.declared.numbers.ServerNo.{ServerNo}
 use Rattle.hx_conn.specs.Conns.{RestedNow, BusyNow}
 use Rattle.hx_conn.specs.Steps.{answer_ended}
@@ -7,6 +7,7 @@ use Rattle.hx_frame.specs.declared.progress.MeterState.TheVariants.{Going, Done}
 use Rattle.hx_link.specs.Pipes.{PipeNow}
 use Rattle.hx_session.specs.declared.answers.Do.{Do}
 use Rattle.hx_session.specs.declared.answers.Do.TheVariants.{BadAsk, BadAnswer, PassAsk, ClientEnded, LookForHead, PassAnswer, Finish, ServerEnded, Nothing}
+use Rattle.hx_session.specs.declared.exchange.AnswerWay.{AnswerWay}
 use Rattle.hx_session.specs.declared.exchange.AnswerWay.TheVariants.{Heads, Body}
 use Rattle.hx_session.specs.declared.exchange.BodyWay.{BodyWay}
 use Rattle.hx_session.specs.Carried.{IsCarried}
@@ -45,9 +46,11 @@ DoesAtEnd e b to Finish = (b.to_end ≡ true) × (e.ended ≡ true) × (to.bytes
 DoesAtEnd e b to ServerEnded = ⊤
 DoesAtEnd e b to Nothing = ⊤
 
--- the whole answer was read on the connection
-abbrev pub EndsAnswer : BusyNow → BusyNow → ℕ → Type 0
-EndsAnswer b b' n = (persistent : Bool) × (b' ≡ answer_ended b n persistent)
+-- the whole answer was read on the connection, which persists after it where the answer says so and doesn't run to the end
+abbrev pub EndsAnswer : AnswerWay → BusyNow → BusyNow → ℕ → Type 0
+EndsAnswer a b b' n =
+    (persistent : Bool) × (b' ≡ answer_ended b n persistent)
+    × ((y : BodyWay) → a ≡ Body y → persistent ≡ (y.persists && not y.to_end))
 
 -- what rests with the session is a connection to that server
 abbrev pub RestsTo : ServerNo → Option RestedNow → Type 0

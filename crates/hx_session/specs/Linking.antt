@@ -12,12 +12,13 @@ use Rattle.hx_session.specs.Doings.{IsSameNet}
 use Rattle.hx_session.specs.Steps.{StepTouches, doing}
 use Rattle.hx_session.specs.Stopping.{StopTouches, stopping, stopped_of}
 use Rattle.hx_session.specs.Telling.{RecordsTold, stopped}
-use Rattle.hx_session.specs.Touching.{after_of}
+use Rattle.hx_session.specs.Touching.{ClosesForCauses, after_of}
 
--- of a step: the way of the touched connection, and the record by what its link tells after the call
+-- of a step: the way of the touched connection, the cause of its closing, and the record by what its link tells after the call
 pub record StepLinks (s s' : SessionNow) (before after : Around) (r : Step) : Type 0 where
   pub added : List (List Note)
   pub touches : StepTouches (doing s s' before after added r)
+  pub closes : ClosesForCauses (doing s s' before after added r) touches.touch touches.touched
   pub records : RecordsTold s s' (after_of (doing s s' before after added r) touches.touch touches.touched) r.left r.served
 
 -- of a stop: the session's connection is closed, if it has one, and its link is buried as it stood

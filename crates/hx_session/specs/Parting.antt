@@ -18,11 +18,25 @@ use Rattle.hx_session.specs.declared.stage.Came.{Came}
 use Rattle.hx_session.specs.declared.stage.Came.TheVariants.{On, Moved, Ends}
 use Rattle.hx_session.specs.Desks.{DeskNow}
 use Rattle.hx_session.specs.Seen.{conn_seen}
-use Rattle.hx_session.specs.Stages.{StageNow, Exchanging, stage_now}
+use Rattle.hx_connecting.specs.Outcomes.{Outcome, Going, Deciding, Leaving}
+use Rattle.hx_session.specs.Stages.{StageNow, Reading, Choosing, Exchanging, Answering, Left, stage_now}
 
 -- the next request is the session's first
 abbrev pub first_of : DeskNow → Bool
 first_of d = (d.number - 1) == 0
+
+-- how a session stands behind it: it goes on, with an own answer decided or not, or it has left
+abbrev pub outcome_of : StageNow → Outcome
+outcome_of (Reading held) = Going
+outcome_of (Choosing c) = Going
+outcome_of (Exchanging e) = Going
+outcome_of (Answering a) = Deciding
+outcome_of Left = Leaving
+
+abbrev pub came_outcome : {X : Type 0} → Came X → Outcome
+came_outcome (On stage w) = outcome_of (stage_now stage)
+came_outcome (Moved stage w served) = outcome_of (stage_now stage)
+came_outcome (Ends e) = Leaving
 
 -- the connection that the session has behind a part
 abbrev pub came_conn : {X : Type 0} → Came X → Option Holding
@@ -53,8 +67,8 @@ abbrev pub CameWay : {X : Type 0} → Came X → ThreadNo → SessionNo → Opti
     → NetState → NetState → Option Touch → Type 0
 CameWay (On stage w) t n c news added net net' x = StaysOn c (conn_seen (stage_now stage)) × (net' ≡ net)
 CameWay (Moved stage w served) t n c news added net net' x =
-    WayFor t n c (conn_seen (stage_now stage)) news added net net' x served
-CameWay (Ends e) t n c news added net net' x = WayFor t n c (resting e.held) news added net net' x e.served
+    WayFor t n c (conn_seen (stage_now stage)) (outcome_of (stage_now stage)) news added net net' x served
+CameWay (Ends e) t n c news added net net' x = WayFor t n c (resting e.held) Leaving news added net net' x e.served
 
 -- a part and what it touched
 pub record Parted {X : Type 0} (d : DeskNow) (s : StageNow) (seats : List History) (net : NetState)
@@ -76,7 +90,7 @@ PartTouches d s seats net d' came seats' net' =
 abbrev pub StageTouches : DeskNow → StageNow → List History → NetState → DeskNow → StageNow → List History → NetState → Type 0
 StageTouches d s seats net d' s' seats' net' =
     ((seats' ≡ seats) × (net' ≡ net) × (conn_seen s' ≡ conn_seen s))
-    ⊎ SomeWay d.worker d.session (first_of d) (conn_seen s) (conn_seen s') seats seats' net net' None
+    ⊎ SomeWay d.worker d.session (first_of d) (conn_seen s) (conn_seen s') (outcome_of s') seats seats' net net' None
 
 -- the parts of a step so far, and one more
 abbrev pub TouchesOn : {X : Type 0} → DeskNow → Came X → List History → NetState → DeskNow → Came X → List History → NetState → Type 0
@@ -92,7 +106,7 @@ TouchesAll d came seats net s' served seats' net' =
     (d0 : DeskNow) (s0 : StageNow) (seats0 : List History) (net0 : NetState)
     → d.worker ≡ d0.worker → d.session ≡ d0.session
     → Parted d0 s0 seats0 net0 d came seats net
-    → SomeWay d0.worker d0.session (first_of d0) (conn_seen s0) (conn_seen s') seats0 seats' net0 net' served
+    → SomeWay d0.worker d0.session (first_of d0) (conn_seen s0) (conn_seen s') (outcome_of s') seats0 seats' net0 net' served
 
 -- with a record that a part gives no byte is moved on the link of its exchange, nor while the step goes on
 abbrev pub CameKeeps : {X : Type 0} → Came X → BusyNow → BusyNow → Type 0

@@ -15,6 +15,7 @@ use Rattle.hx_record.specs.declared.served.Left.{Left as Leave}
 use Rattle.hx_record.specs.declared.served.LeftCause.{LeftCause}
 use Rattle.hx_session.specs.Over.{left_of}
 use Rattle.hx_session.specs.Desks.{DeskNow}
+use Rattle.hx_session.specs.Doings.{IsSameClient}
 use Rattle.hx_session.specs.Ending.{HasOwn}
 use Rattle.hx_session.specs.Exchanged.{ExchangeNow}
 use Rattle.hx_session.specs.Fits.{GoesTo}
@@ -109,11 +110,12 @@ CamePlaced d (On stage w) seats = IsPlaced d (stage_now stage) seats
 CamePlaced d (Moved stage w served) seats = IsPlaced d (stage_now stage) seats
 CamePlaced d (Ends e) seats = IsLeaving d e.held seats
 
--- whose desk it is
+-- whose desk it is, and that its client's link stays the same one
 pub record KeepsWho (d d' : DeskNow) : Type 0 where
   pub worker : d'.worker ≡ d.worker
   pub session : d'.session ≡ d.session
   pub since : d'.since ≡ d.since
+  pub client : IsSameClient d.client d'.client
 
 -- and its client's link's loop
 pub record KeepsDesk (d d' : DeskNow) : Type 0 where

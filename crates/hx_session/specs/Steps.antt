@@ -1,6 +1,5 @@
 -- A step of a session: what a worker learns of it.
 use Rattle.std.specs.Prelude.{◌≡◌, ◌⊎◌, ℕ, ◌<◌, true, false, List, [], Option, Some, None, IfSome, IsSome}
-use Rattle.hx_base.specs.Counts.{Rose}
 use Rattle.hx_config.specs.Meaning.{Meaning}
 use Rattle.hx_link.specs.Told.{LinkState}
 use Rattle.hx_connecting.specs.Wanted.{OpensWereWanted}
@@ -13,6 +12,7 @@ use Rattle.hx_connecting.specs.Sessions.{SessionNow, Around, Holding, admitted, 
 use Rattle.hx_connecting.specs.Touches.{Touch, Adds, EachSeat, Ends}
 use Rattle.hx_session.specs.Records.{Records, Leaves}
 use Rattle.hx_connecting.specs.Choosing.{Turns, IsChosen, KeepsChoice}
+use Rattle.hx_session.specs.First.{WasRead}
 use Rattle.hx_session.specs.Standstill.{Stands}
 use Rattle.hx_session.specs.Causes.{Limits, CanBeLate}
 use Rattle.hx_session.specs.Doings.{Doing, IsSameSession, IsSameNet}
@@ -22,9 +22,7 @@ use Rattle.hx_session.specs.Touching.{Touches, ClosesForCauses, after_of, event_
 
 -- the first step reads the client's link, unless a deadline has come
 abbrev pub ReadsFirst : SessionNow → SessionNow → Type 0
-ReadsFirst s s' =
-    (s.client.taken_count < s'.client.taken_count) ⊎ (s'.client.told_end ≡ true)
-    ⊎ Rose s.client.read_waits s'.client.read_waits ⊎ Rose s.client.faults s'.client.faults
+ReadsFirst s s' = WasRead s.client s'.client
 
 -- a step that moved moves a byte over a link or between two pipes, raises the stage, makes a record, or closes a connection
 abbrev pub LinkMoved : LinkState → LinkState → Type 0
@@ -40,9 +38,9 @@ MovesOn s s' x served =
     LinkMoved s.client s'.client ⊎ ConnMoved s.conn s'.conn ⊎ (s.put < s'.put) ⊎ (s.stage < s'.stage)
     ⊎ IsSome served ⊎ ((y : Touch) × (x ≡ Some y) × (y.went ≡ Ends))
 
--- nothing was done since its admission
+-- nothing was done since its admission, and nothing was taken of its client
 abbrev pub IsNew : SessionNow → Type 0
-IsNew s = s ≡ admitted s.worker s.number s.front s.since s.client
+IsNew s = (s ≡ admitted s.worker s.number s.front s.since s.client) × (s.client.taken_count ≡ 0)
 
 abbrev pub doing : SessionNow → SessionNow → Around → Around → List (List Note) → Step → Doing
 doing s s' before after added r = record {

@@ -20,7 +20,7 @@ use Rattle.hx_session.specs.declared.stage.Came.TheVariants.{On, Moved, Ends}
 use Rattle.hx_session.specs.Desks.{DeskNow}
 use Rattle.hx_session.specs.Exchanged.{ExchangeNow}
 use Rattle.hx_session.specs.Over.{IsTold, carried_of, closing_of}
-use Rattle.hx_session.specs.Records.{IsOfExchange, ItsExchange, NoRecord, EndsSession, KindStands, Leaves, LeftStands, WhereTold, ends_after, leaves_for, no_carriage}
+use Rattle.hx_session.specs.Records.{IsOfExchange, NoRecord, EndsSession, KindStands, Leaves, LeftStands, WhereTold, ends_after, leaves_for, no_carriage}
 use Rattle.hx_session.specs.Seen.{GivesRecord}
 use Rattle.hx_session.specs.Stages.{StageNow, ChoosingNow, Reading, Choosing, Exchanging, Answering, Left, stage_now}
 use Rattle.hx_session.specs.Stopping.{ServesAtStop, StopsKind}

@@ -20,6 +20,7 @@ ghost use Rattle.hx_session.specs.Passing.{PassesBody, BeginsBody};
 ghost use Rattle.hx_session.specs.Picking.{Picks};
 ghost use Rattle.hx_session.specs.Seen.{conn_seen};
 ghost use Rattle.hx_session.specs.Stages.{StageNow, Reading, Exchanging};
+ghost use Rattle.hx_connecting.specs.Outcomes.{Outcome};
 ghost use Rattle.hx_connecting.specs.Ways.{ExchangeStays, RestWay};
 ghost use Rattle.hx_connecting.specs.Sessions.{Exchanging as OnConn};
 ghost use Rattle.hx_connecting.specs.Journals.{room_of};
@@ -404,7 +405,7 @@ fn lasts(persists: bool, to_end: bool) -> bool
 /// The whole answer was taken.
 fn end_answer<L: Link>(exchange: Exchange<L>) -> Busy<L>
     requires { WasOver (exchange_now exchange) }
-    ensures { EndsAnswer exchange.busy result exchange.answered }
+    ensures { EndsAnswer exchange.answer exchange.busy result exchange.answered }
 {
     let Exchange {
         mut busy,
@@ -433,7 +434,7 @@ fn pass<L: Link, S: Seat<Rested<L>>, N: Net<L = L>>(
     ensures placed { IsPlaced (desk_now L.state desk.new) (Reading result.1) (map S.history seats.new) }
     ensures keeps { KeepsPlace (desk_now L.state desk.old) (desk_now L.state desk.new) (map S.history seats.old) (map S.history seats.new)
         (N.state net.old) (N.state net.new) }
-    ensures touches { RestWay desk.old.worker desk.old.session (first_of (desk_now L.state desk.old)) (Some (OnConn exchange.busy))
+    ensures touches { (z : Outcome) → RestWay desk.old.worker desk.old.session (first_of (desk_now L.state desk.old)) (Some (OnConn exchange.busy)) z
         (map S.history seats.old) (map S.history seats.new) (N.state net.old) (N.state net.new) result.1 (Some result.0) }
     ensures server { RestsTo exchange.busy.server result.1 }
     ensures gives { GivesPassed (desk_now L.state desk.old) (desk_now L.state desk.new) (exchange_now exchange) result.0 }

@@ -1,6 +1,6 @@
 //! How exchanges and sessions end early.
 
-ghost use Rattle.std.specs.Prelude.{◌≡◌, ◌+◌, ◌≤◌, [], List, length, map, Some, None};
+ghost use Rattle.std.specs.Prelude.{◌≡◌, ◌+◌, ◌≤◌, [], List, Option, length, map, Some, None};
 ghost use Rattle.hx_link.specs.Nets.{NetState};
 ghost use Rattle.hx_link.specs.Pipes.{pipe as a_pipe};
 ghost use Rattle.hx_message.specs.OwnAnswer.{IsOwnAnswer};
@@ -14,12 +14,13 @@ ghost use Rattle.hx_connecting.specs.Sessions.{Exchanging as OnConn};
 ghost use Rattle.hx_connecting.specs.Journals.{room_of};
 ghost use Rattle.hx_connecting.specs.Rooms.{RoomsStay};
 ghost use Rattle.hx_session.specs.Parting.{PartTouches, StopCloses};
-ghost use Rattle.hx_conn.specs.Conns.{IsBusy};
+ghost use Rattle.hx_conn.specs.Conns.{IsBusy, RestedNow};
 ghost use Rattle.hx_session.specs.declared.stage.Came.TheVariants.{Ends};
 ghost use Rattle.hx_session.specs.Desks.{desk_now, IsDesk};
 ghost use Rattle.hx_session.specs.Exchanged.{exchange_now};
+ghost use Rattle.hx_session.specs.First.{IsEnding};
 ghost use Rattle.hx_session.specs.Over.{served_of, after_record};
-ghost use Rattle.hx_session.specs.Stages.{Exchanging, StandsSo, own_stage, stage_of_answering, stage_now};
+ghost use Rattle.hx_session.specs.Stages.{Exchanging, Reading, StandsSo, own_stage, stage_of_answering, stage_now};
 ghost use Rattle.hx_record.specs.declared.served.CutCause.TheVariants.{Early};
 ghost use Rattle.hx_session.specs.Ending.{EndsEarly, CutsOff, EndsInCut, HasOwnText, AnswersOwn};
 ghost use Rattle.hx_session.specs.Standing.{IsCounted, IsLeaving, IsPlaced, IsSet, KeepsPlace, Goes};
@@ -274,6 +275,7 @@ pub(crate) fn leave_or_cut<L: Link, S: Seat<Rested<L>>, N: Net<L = L>>(
     ensures rooms { RoomsStay S.history (room_of S.kept_from S.spare) seats.old seats.new }
     ensures goes { Goes (desk_now L.state desk.old) (stage_now stage) (map S.history seats.old) (N.state net.old)
         (desk_now L.state desk.new) result (map S.history seats.new) (N.state net.new) }
+    ensures leaves { (held : Option RestedNow) → stage_now stage ≡ Reading held → IsEnding result }
 {
     match stage {
         Stage::Exchanging(exchange) => cut(desk, exchange, seats, net, CutCause::Client),

@@ -1,10 +1,11 @@
 //! The parts of a step, in their order.
 
-ghost use Rattle.std.specs.Prelude.{◌≡◌, ◌↔◌, ◌<◌, ◌≤◌, IsTrue, List, Option, length, map, false, None};
+ghost use Rattle.std.specs.Prelude.{◌≡◌, ◌⊎◌, ◌↔◌, ◌<◌, ◌≤◌, IsTrue, List, Option, length, map, false, None};
 ghost use Rattle.hx_base.specs.declared.numbers.ServerNo.{ServerNo};
 ghost use Rattle.hx_config.specs.declared.parts.Back.{Back};
 ghost use Rattle.hx_config.specs.Limits.{all_servers};
 ghost use Rattle.hx_link.specs.Nets.{NetState};
+ghost use Rattle.hx_link.specs.Told.{LinkState};
 ghost use Rattle.hx_pool.specs.SeatView.{History};
 ghost use Rattle.hx_connecting.specs.Around.{abouts};
 ghost use Rattle.hx_connecting.specs.Choice.{HaveSeats};
@@ -13,6 +14,8 @@ ghost use Rattle.hx_connecting.specs.Rooms.{RoomsStay};
 ghost use Rattle.hx_connecting.specs.Sessions.{Holding};
 ghost use Rattle.hx_session.specs.Desks.{DeskNow, desk_now};
 ghost use Rattle.hx_session.specs.Exchanged.{ExchangeNow, exchange_now};
+ghost use Rattle.hx_session.specs.Causes.{HasCome};
+ghost use Rattle.hx_session.specs.First.{IsFresh, FreshOn, ReadOn, WasRead};
 ghost use Rattle.hx_session.specs.Ending.{HasOwnText};
 ghost use Rattle.hx_session.specs.declared.moves.Move.TheVariants.{Failed};
 ghost use Rattle.hx_session.specs.Moves.{with_client};
@@ -23,7 +26,7 @@ ghost use Rattle.hx_session.specs.Standing.{IsCounted, IsPlaced, CamePlaced, IsR
 ghost use Rattle.hx_session.specs.Still.{WantsClient};
 ghost use Rattle.hx_session.specs.Telling.{MoveTells, CameTells, TellsEnd, DoneTells};
 ghost use Rattle.hx_connecting.specs.Ways.{SomeWay};
-ghost use Rattle.hx_session.specs.Parting.{CameKeeps, LetsGo, TouchesOn, TouchesAll, first_of};
+ghost use Rattle.hx_session.specs.Parting.{CameKeeps, LetsGo, TouchesOn, TouchesAll, first_of, outcome_of};
 ghost use Rattle.hx_session.specs.Seen.{conn_seen};
 ghost use Rattle.hx_session.specs.declared.stage.Came.TheVariants.{Ends};
 
@@ -186,6 +189,9 @@ fn meet_deadline<L: Link, S: Seat<Rested<L>>, N: Net<L = L>>(
     ensures rooms { RoomsStay S.history (room_of S.kept_from S.spare) seats.old seats.new }
     ensures goes { Goes (desk_now L.state desk.old) (stage_now stage) (map S.history seats.old) (N.state net.old)
         (desk_now L.state desk.new) result (map S.history seats.new) (N.state net.new) }
+    ensures first { IsFresh (L.state desk.old.client) (desk_now L.state desk.old) (stage_now stage) → desk.old.number ≡ 1
+        → FreshOn (L.state desk.old.client) (desk_now L.state desk.new) result
+        ⊎ HasCome scene.entry.front.now.client desk.old.since.0 scene.entry.now.0 }
 {
     match find_late(desk, &stage, scene.front, scene.back, scene.now) {
         None => Came::On(stage, Waiting::Nothing),
@@ -212,6 +218,7 @@ fn give_some<L: Link, S: Seat<Rested<L>>, N: Net<L = L>>(
     ensures rooms { RoomsStay S.history (room_of S.kept_from S.spare) seats.old seats.new }
     ensures goes { Goes (desk_now L.state desk.old) (stage_now stage) (map S.history seats.old) (N.state net.old)
         (desk_now L.state desk.new) result (map S.history seats.new) (N.state net.new) }
+    ensures first { (l : LinkState) → IsFresh l (desk_now L.state desk.old) (stage_now stage) → FreshOn l (desk_now L.state desk.new) result }
 {
     match give(desk, at.now) {
         Move::Bytes => Came::Moved(stage, at.waits, None),
@@ -242,6 +249,7 @@ fn move_to_client<L: Link, S: Seat<Rested<L>>, N: Net<L = L>>(
         → Picks c v hs result (map S.history seats.new) }
     ensures told { (d0 : DeskNow) (s0 : StageNow) → CameTells d0 s0 (desk_now L.state desk.old) came
         → CameTells d0 s0 (desk_now L.state desk.new) result }
+    ensures first { (l : LinkState) → FreshOn l (desk_now L.state desk.old) came → FreshOn l (desk_now L.state desk.new) result }
 {
     let Came::On(stage, waits) = came else {
         return came;
@@ -321,6 +329,7 @@ fn move_to_server<L: Link, S: Seat<Rested<L>>, N: Net<L = L>>(
         → Picks c v hs result (map S.history seats.new) }
     ensures told { (d0 : DeskNow) (s0 : StageNow) → CameTells d0 s0 (desk_now L.state desk.old) came
         → CameTells d0 s0 (desk_now L.state desk.new) result }
+    ensures first { (l : LinkState) → FreshOn l (desk_now L.state desk.old) came → FreshOn l (desk_now L.state desk.new) result }
 {
     let Came::On(stage, waits) = came else {
         return came;
@@ -351,6 +360,7 @@ fn take_turn<L: Link, S: Seat<Rested<L>>>(
         → Picks (conn_seen s0) (chosen_seen s0) hs came (map S.history seats.old)
         → PicksSo back.now.servers turn.old turn.new s0 hs result (map S.history seats.new) }
     ensures told { (d0 d : DeskNow) (s0 : StageNow) → CameTells d0 s0 d came → CameTells d0 s0 d result }
+    ensures first { (l : LinkState) (d : DeskNow) → FreshOn l d came → FreshOn l d result }
 {
     let Came::On(stage, waits) = came else {
         return came;
@@ -387,6 +397,7 @@ fn do_stage<L: Link, S: Seat<Rested<L>>, N: Net<L = L>>(
     ensures rooms { RoomsStay S.history (room_of S.kept_from S.spare) seats.old seats.new }
     ensures goes { Goes (desk_now L.state desk.old) (stage_now stage) (map S.history seats.old) (N.state net.old)
         (desk_now L.state desk.new) result (map S.history seats.new) (N.state net.new) }
+    ensures first { (l : LinkState) → IsFresh l (desk_now L.state desk.old) (stage_now stage) → FreshOn l (desk_now L.state desk.new) result }
 {
     match stage {
         Stage::Reading(held) => read_head(desk, held, scene.now, scene.waits),
@@ -430,6 +441,7 @@ fn do_phase<L: Link, S: Seat<Rested<L>>, N: Net<L = L>>(
         → Picks c v hs result (map S.history seats.new) }
     ensures told { (d0 : DeskNow) (s0 : StageNow) → CameTells d0 s0 (desk_now L.state desk.old) came
         → CameTells d0 s0 (desk_now L.state desk.new) result }
+    ensures first { (l : LinkState) → FreshOn l (desk_now L.state desk.old) came → FreshOn l (desk_now L.state desk.new) result }
 {
     let Came::On(stage, waits) = came else {
         return came;
@@ -467,6 +479,7 @@ fn take_some<L: Link, S: Seat<Rested<L>>, N: Net<L = L>>(
     ensures rooms { RoomsStay S.history (room_of S.kept_from S.spare) seats.old seats.new }
     ensures goes { Goes (desk_now L.state desk.old) (stage_now stage) (map S.history seats.old) (N.state net.old)
         (desk_now L.state desk.new) result (map S.history seats.new) (N.state net.new) }
+    ensures first { (l : LinkState) → IsFresh l (desk_now L.state desk.old) (stage_now stage) → ReadOn l (desk_now L.state desk.new) result }
 {
     match read_client(desk, at.now) {
         Move::Bytes => Came::Moved(stage, at.waits, None),
@@ -497,6 +510,7 @@ fn move_from_client<L: Link, S: Seat<Rested<L>>, N: Net<L = L>>(
         → Picks c v hs result (map S.history seats.new) }
     ensures told { (d0 : DeskNow) (s0 : StageNow) → CameTells d0 s0 (desk_now L.state desk.old) came
         → CameTells d0 s0 (desk_now L.state desk.new) result }
+    ensures first { (l : LinkState) → FreshOn l (desk_now L.state desk.old) came → ReadOn l (desk_now L.state desk.new) result }
 {
     let Came::On(stage, waits) = came else {
         return came;
@@ -544,6 +558,7 @@ fn move_from_server<L: Link, S: Seat<Rested<L>>, N: Net<L = L>>(
         → Picks c v hs result (map S.history seats.new) }
     ensures told { (d0 : DeskNow) (s0 : StageNow) → CameTells d0 s0 (desk_now L.state desk.old) came
         → CameTells d0 s0 (desk_now L.state desk.new) result }
+    ensures first { (l : LinkState) → ReadOn l (desk_now L.state desk.old) came → WasRead l (L.state desk.new.client) }
 {
     let Came::On(stage, waits) = came else {
         return came;
@@ -593,6 +608,7 @@ fn give_left<L: Link, S: Seat<Rested<L>>, N: Net<L = L>>(
     ensures seats { ending.held ≡ None → map S.history seats.new ≡ map S.history seats.old }
     ensures told { (d0 : DeskNow) (s0 : StageNow) → TellsEnd s0 d0 (desk_now L.state desk.old) ending.served ending.cause
         → DoneTells d0 s0 (desk_now L.state desk.new) result.served result.left }
+    ensures client { L.state desk.new.client ≡ record (L.state desk.old.client) { on_loop = None } }
 {
     let Ending {
         cause,
@@ -629,6 +645,7 @@ fn conclude<L: Link, S: Seat<Rested<L>>, N: Net<L = L>>(
         → PicksTo c v hs (stage_now result.stage) (map S.history seats.new) }
     ensures told { (d0 : DeskNow) (s0 : StageNow) → CameTells d0 s0 (desk_now L.state desk.old) came
         → DoneTells d0 s0 (desk_now L.state desk.new) result.served result.left }
+    ensures first { (l : LinkState) → WasRead l (L.state desk.old.client) → WasRead l (L.state desk.new.client) }
 {
     match came {
         Came::On(stage, waits) => Done {
@@ -668,8 +685,8 @@ pub(crate) fn advance<L: Link, S: Seat<Rested<L>>, N: Net<L = L>>(
     ensures rooms { RoomsStay S.history (room_of S.kept_from S.spare) seats.old seats.new }
     ensures done { IsDone (desk_now L.state desk.new) (stage_now result.stage) (map S.history seats.new) result.waits result.left }
     ensures touches { SomeWay desk.old.worker desk.old.session (first_of (desk_now L.state desk.old))
-        (conn_seen (stage_now stage)) (conn_seen (stage_now result.stage)) (map S.history seats.old) (map S.history seats.new)
-        (N.state net.old) (N.state net.new) result.served }
+        (conn_seen (stage_now stage)) (conn_seen (stage_now result.stage)) (outcome_of (stage_now result.stage))
+        (map S.history seats.old) (map S.history seats.new) (N.state net.old) (N.state net.new) result.served }
     ensures keeps { KeepsOver (desk_now L.state desk.old) (desk_now L.state desk.new) (map S.history seats.old) (map S.history seats.new)
         (N.state net.old) (N.state net.new) }
     ensures routed { IsRoutedTo scene.entry.back.now (stage_now result.stage) }
@@ -677,6 +694,9 @@ pub(crate) fn advance<L: Link, S: Seat<Rested<L>>, N: Net<L = L>>(
     ensures picks { PicksAll scene.entry.back.now.servers turn.old turn.new (stage_now stage) (map S.history seats.old)
         (stage_now result.stage) (map S.history seats.new) }
     ensures told { DoneTells (desk_now L.state desk.old) (stage_now stage) (desk_now L.state desk.new) result.served result.left }
+    ensures first { IsFresh (L.state desk.old.client) (desk_now L.state desk.old) (stage_now stage) → desk.old.number ≡ 1
+        → WasRead (L.state desk.old.client) (L.state desk.new.client)
+        ⊎ HasCome scene.entry.front.now.client desk.old.since.0 scene.entry.now.0 }
 {
     let came = meet_deadline(desk, stage, seats, net, scene);
     let came = move_to_client(desk, came, seats, net, scene.now);

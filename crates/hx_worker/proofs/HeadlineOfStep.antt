@@ -160,6 +160,7 @@ headline_of_step w w' net net' n r k has =
       records = records_stand s k.after (conn_after w w' net net' n r k) r.left r.served l.records;
       truth = λ tell. true_record d t.touch t.touched r.left r.served refl l.records tell;
       chooses = k.step.chooses;
+      closes = l.closes;
       dialled = then_dials (dialled_by d t.touch t.touched) net.dials k.after.over k.after.client k.mid net' (touch_dials d t.touch t.touched) k.buries;
       buried = k.buried;
     }

@@ -89,7 +89,7 @@ module _ (t : ThreadNo) (config : Meaning) (hs hs' : List History) (js js' : Lis
 
   -- its number is still that of the call
   pub after_number : a.number.0 ≡ n
-  after_number = ap (λ (k : SessionNo). k.0) x.step.same.number ∙ found.0
+  after_number = ap (λ (k : SessionNo). k.0) x.step.same.session.number ∙ found.0
 
   pub step_sessions : HasSessions (worker_now t config hs' js' ts' last (placed ss a))
   step_sessions =
@@ -97,14 +97,14 @@ module _ (t : ThreadNo) (config : Meaning) (hs hs' : List History) (js js' : Lis
         rise = placed_rise 0 last ss a has.rise;
         few = omega arith;
         most = has.most;
-        ours = placed_each (IsOurs t config) ss a (λ on. record { its = x.step.same.worker ∙ found.1.its; going = x.going on }) has.ours;
+        ours = placed_each (IsOurs t config) ss a (λ on. record { its = x.step.same.session.worker ∙ found.1.its; going = x.going on }) has.ours;
         turns = x.turns;
       }
 
   pub step_seats : HasSeats (worker_now t config hs js ts last ss) → HasSeats (worker_now t config hs' js' ts' last (placed ss a))
   step_seats seats =
       let P : ℕ → List Note → Type 0 = HasMarks s.worker s.number (is_first s) x.step.adds.touch in
-      let same : a.number ≡ s.number = x.step.same.number in
+      let same : a.number ≡ s.number = x.step.same.session.number in
       let there : session_of ss a.number.0 ≡ Some s = subst (λ m. session_of ss m ≡ Some s) (sym after_number) x.there in
       let gone : a.over ≡ true → a.conn ≡ None = gone_empty a r.left x.step.tells.leaves in record {
         serve = subst (λ (h : ThreadNo). SeatsServe h hs' (all_servers config.backs)) found.1.its x.serve;

@@ -1,6 +1,6 @@
 -- What one step of a worker carries of the headline: each server's entries stand in one history, what was opened was
--- wanted, each connection that the seats hold is with its session, records are true, a server was chosen in turn, and
--- links were dialled and buried as is due.
+-- wanted, each connection that the seats hold is with its session, records are true, a server was chosen in turn, a
+-- connection was closed for a cause, and links were dialled and buried as is due.
 use Rattle.std.specs.Prelude.{◌≡◌, ℕ, ◌≤◌, List, [], ◌∷◌, ◌++◌, length, Option, Some, None, IfSome, IsSome, slice_get}
 use Rattle.hx_base.specs.declared.numbers.SessionNo.{SessionNo}
 use Rattle.hx_base.specs.declared.what.What.{What}
@@ -22,7 +22,7 @@ use Rattle.hx_connecting.specs.Wanted.{OpensWereWanted}
 use Rattle.hx_session.specs.Doings.{Doing}
 use Rattle.hx_session.specs.Records.{Records, carriage_of, no_carriage, told_of, leaves_for}
 use Rattle.hx_session.specs.Steps.{StepChooses, doing}
-use Rattle.hx_session.specs.Touching.{Touches, after_of}
+use Rattle.hx_session.specs.Touching.{ClosesForCauses, Touches, after_of}
 use Rattle.hx_session.specs.declared.step.Step.{Step}
 use Rattle.hx_worker.specs.Steps.{Steps, HasFewMarks, around_of, buried_by}
 use Rattle.hx_worker.specs.Workers.{WorkerNow, OwnsAll}
@@ -85,7 +85,7 @@ abbrev pub conn_after : (w w' : WorkerNow) (net net' : NetState) (n : SessionNo)
 conn_after w w' net net' n r k =
     after_of (doing_of w w' net net' n r k) k.step.links.touches.touch k.step.links.touches.touched
 
--- what it carries; why a connection was closed is not among it yet
+-- what it carries
 pub record CarriesHeadline (w w' : WorkerNow) (net net' : NetState) (n : SessionNo) (r : Step)
     (k : Steps w w' net net' n r) : Type 0 where
   pub seats : CarriesEach k.session w.seats w'.seats k.step.links.added
@@ -95,6 +95,7 @@ pub record CarriesHeadline (w w' : WorkerNow) (net net' : NetState) (n : Session
       → IfSome r.served
       (λ v. IsTrueRecord k.after.client (conn_after w w' net net' n r k) (leaves_for r.left) v v.kind)
   pub chooses : StepChooses w.config (doing_of w w' net net' n r k) k.step.links.touches.touch
+  pub closes : ClosesForCauses (doing_of w w' net net' n r k) k.step.links.touches.touch k.step.links.touches.touched
   pub dialled :
       GainsAll (dialled_by (doing_of w w' net net' n r k) k.step.links.touches.touch k.step.links.touches.touched)
       net.dials net'.dials

@@ -5,6 +5,7 @@ use Rattle.hx_session.specs.declared.exchange.AnswerWay.{AnswerWay}
 use Rattle.hx_session.specs.Desks.{desk_now, DeskNow}
 use Rattle.hx_session.specs.Exchanged.{exchange_now}
 use Rattle.hx_session.specs.Over.{early_of}
+use Rattle.hx_session.specs.Parting.{came_outcome}
 use Rattle.hx_connecting.specs.Sessions.{Exchanging as OnConn}
 use Rattle.hx_session.proofs.RestLemmas.{rest_routed}
 use Rattle.hx_session.proofs.RestWays.{rests_came}
@@ -34,7 +35,7 @@ returns g c =
     let net0 : NetState = g.N.Net.state c.args.net.now in
     let net1 : NetState = g.N.Net.state c.pass-held.new.net in
     let passed = c.pass-held.ensures in
-    let w = passed.touches in
+    let w = passed.touches (came_outcome c.after_pass.result) in
     record {
       goes = record {
         placed = c.after_pass.ensures.placed news passed.placed;

@@ -12,6 +12,7 @@ use Rattle.hx_session.specs.Exchanged.{exchange_now, ExchangeNow}
 use Rattle.hx_session.proofs.RestLemmas.{rest_ready, passed_placed, passed_keeps, rests_to}
 use Rattle.hx_connecting.specs.Ways.{RestWay}
 use Rattle.hx_connecting.proofs.WayCalls.{rests_way}
+use Rattle.hx_session.proofs.ClosingLemmas.{rest_causes}
 use Rattle.hx_session.proofs.RestWays.{is_passed, passed_for, rest_behind}
 use Rattle.hx_session.specs.Parting.{first_of}
 use Rattle.hx_session.proofs.answers.pass.Goals as goal
@@ -87,7 +88,7 @@ returns-clause-gives g c =
     }
 
 pub returns-clause-touches : goal.returns-clause-touches
-returns-clause-touches g c =
+returns-clause-touches g c = λ z.
     let f = g.S.HasHistory.history in
     let d : DeskNow = desk_now g.L.Link.state c.args.desk.now in
     let d1 : DeskNow = desk_now g.L.Link.state c.tell_passed-served.new.desk in
@@ -106,6 +107,7 @@ returns-clause-touches g c =
     let around : HasAround d.worker d1.session (Some (Exchanging b2)) olds =
     around_busy d.worker d1.session b b2 olds (ap (λ (x : BusyNow). x.server) ends.1) (ap (λ (x : BusyNow). x.id) ends.1) (ap (λ (x : BusyNow). x.uses) ends.1)
     (ap (λ (x : BusyNow). x.link.on_loop) ends.1) (subst (λ (n : SessionNo). HasAround d.worker n (Some (Exchanging b)) olds) (sym session) c.requires.placed.set.around) in
-    let w : RestWay d.worker d1.session (first_of d) (Some (Exchanging b2)) olds news net net2 q (Some r) =
-    rests_way d.worker d1.session (first_of d) olds news b2 net net2 q (Some r) around (is_passed d d1 e r gives) (λ none. passed_for d d1 e b2 ends.0 r gives ends.1 c.nth-nth.ensures.meaning none) c.rest-held.ensures.rests in
-    rest_behind d.worker d1.session d.session (first_of d) b b2 ends.0 c.args.exchange.answered olds news net net2 q (Some r) session ends.1 w
+    let w : RestWay d.worker d1.session (first_of d) (Some (Exchanging b2)) z olds news net net2 q (Some r) =
+    rests_way d.worker d1.session (first_of d) z olds news b2 net net2 q (Some r) around (is_passed d d1 e r gives) (λ none. passed_for d d1 e b2 ends.0 r gives ends.1 c.nth-nth.ensures.meaning none)
+    (rest_causes d d1 e b2 c.requires.over.0 ends.0 r gives c.requires.placed.set.stands c.requires.over.1 c.requires.placed.good ends.1 (ends.2 c.requires.over.0 c.requires.over.1.body) c.nth-nth.ensures.meaning d1.session z net net2) c.rest-held.ensures.rests in
+    rest_behind d.worker d1.session d.session (first_of d) z b b2 ends.0 c.args.exchange.answered olds news net net2 q (Some r) session ends.1 w

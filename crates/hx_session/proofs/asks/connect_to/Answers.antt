@@ -9,10 +9,10 @@ use Rattle.hx_connecting.specs.Sessions.{Holding}
 use Rattle.hx_connecting.specs.Ways.{SomeWay}
 use Rattle.hx_connecting.proofs.WayCalls.{connects_way}
 use Rattle.hx_session.proofs.RestWays.{held_to}
-use Rattle.hx_session.specs.Parting.{first_of}
+use Rattle.hx_session.specs.Parting.{first_of, outcome_of}
 use Rattle.hx_session.proofs.PartingLemmas.{first_is}
 use Rattle.hx_session.specs.Desks.{desk_now, DeskNow}
-use Rattle.hx_session.specs.Stages.{choosing_now}
+use Rattle.hx_session.specs.Stages.{choosing_now, stage_now}
 use Rattle.hx_session.proofs.PickLemmas.{to_connected}
 use Rattle.hx_session.proofs.asks.connect_to.Goals as goal
 
@@ -32,8 +32,8 @@ returns g c =
       comes = record {
         placed = a.placed news set.numbered (k.around d.worker set.around c.requires.loop_) k.own;
         keeps = record { desk = a.who; about = k.abouts; loop_no = k.loop_ };
-        touches = inr (subst (λ (o : Option Holding). SomeWay d.worker d.session (first_of d) (resting c.args.choosing.held) o olds news net net2 None) (sym a.conn)
-            (connects_way d.worker d.session (first_of d) c.args.to.0 olds news c.args.to.2.0 c.args.choosing.asked.head.method net net2 c.args.choosing.held c.connect-connected.result set.around
+        touches = inr (subst (λ (o : Option Holding). SomeWay d.worker d.session (first_of d) (resting c.args.choosing.held) o (outcome_of (stage_now c.after_connect.result)) olds news net net2 None) (sym a.conn)
+            (connects_way d.worker d.session (first_of d) (outcome_of (stage_now c.after_connect.result)) c.args.to.0 olds news c.args.to.2.0 c.args.choosing.asked.head.method net net2 c.args.choosing.held c.connect-connected.result set.around
             (held_to c.args.choosing.held c.args.choosing.server c.args.to.0 c.requires.placed.good c.requires.chosen) connects));
         picks = to_connected d.worker d.session (first_of d) olds news _ _ _ _ c.connect-connected.result (choosing_now c.args.choosing) c.args.to.0 _ c.requires.chosen c.requires.placed.good set.around connects a.picks;
         routed = λ back r. a.routed back news (subst (λ (o : Option ServerNo). IfSome o (λ v. Contains (servers_of back) v)) c.requires.chosen r.to_chosen) k.own;

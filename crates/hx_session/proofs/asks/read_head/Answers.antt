@@ -1,7 +1,33 @@
-use Rattle.std.proofs.Common.{sym, subst}
+use Rattle.std.proofs.Common.{ap, arith, length, refl, sym, subst}
+use Rattle.hx_link.specs.Pipes.{PipeNow}
+use Rattle.hx_session.specs.Desks.{desk_now, DeskNow}
 use Rattle.hx_session.specs.Ending.{HasOwnText}
+use Rattle.hx_session.specs.declared.stage.Stage.TheVariants.{Reading}
 use Rattle.hx_session.proofs.OwnLemmas.{fault_text}
+use Rattle.hx_session.proofs.PartLemmas.{goes_choosing}
+use Rattle.hx_session.specs.Stages.{Reading}
+use Rattle.hx_session.specs.Standing.{Goes, IsPlaced}
 use Rattle.hx_session.proofs.asks.read_head.Goals as goal
 
 pub answer-stage-requires-clause-known : goal.answer-stage-requires-clause-known
 answer-stage-requires-clause-known g c = subst HasOwnText (sym c.status.ensures) (fault_text c.in-Refused.fault)
+
+pub returns-in-Whole : goal.returns-in-Whole
+returns-in-Whole g c = record {
+  goes = λ seats net p.
+      let d : DeskNow = desk_now g.L.Link.state c.args.desk.now in
+      let from : PipeNow = c.look_up.new.from in
+      let server = c.held_server-server in
+      goes_choosing d (record d { from = from }) c.args.held (record { asked = c.in-Whole.asked; server = server.result; held = c.args.held }) _ c.args.waits seats net
+      (ap (λ (q : PipeNow). record d { from = q }) c.look_up.ensures.same) refl refl server.ensures c.in-Whole.ensures.looks p;
+  first = λ l f. omega (arith, c.len.ensures.len, c.if-len-eq0.false, ap length f.from);
+}
+
+pub returns-in-More-clause-goes : goal.returns-in-More-clause-goes
+returns-in-More-clause-goes g c = λ seats net p.
+    let d : DeskNow = desk_now g.L.Link.state c.args.desk.now in
+    let from : PipeNow = c.look_up.new.from in
+    let d2 : DeskNow = record d { from = from } in
+    let e = ap (λ (q : PipeNow). record d { from = q }) c.look_up.ensures.same in
+    subst (λ (x : DeskNow). Goes x (Reading c.args.held) seats net d2 c.wait_for_head-in-More.result seats net) e
+    (c.wait_for_head-in-More.ensures.goes seats net (subst (λ (x : DeskNow). IsPlaced x (Reading c.args.held) seats) (sym e) p))

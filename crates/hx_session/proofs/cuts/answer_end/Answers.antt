@@ -1,4 +1,4 @@
-use Rattle.std.proofs.Common.{◌∙◌, ℕ, Option, Some, None, arith}
+use Rattle.std.proofs.Common.{◌∙◌, Some, None, arith}
 use Rattle.hx_session.proofs.LookEnds.{answer_at, answer_all, ends_by}
 use Rattle.hx_session.proofs.cuts.answer_end.Goals as goal
 

@@ -1,4 +1,4 @@
-use Rattle.std.proofs.Common.{◌≡◌, ℕ, List, [], drop, ap, subst, ◌∙◌, Option, Some, None}
+use Rattle.std.proofs.Common.{◌≡◌, ℕ, List, [], drop, ap, subst, ◌∙◌, Some, None}
 use Rattle.hx_link.specs.Pipes.{PipeNow}
 use Rattle.hx_session.specs.Cutting.{EndsBodyIn}
 use Rattle.hx_session.proofs.LookEnds.{drops_found, drops_lost}

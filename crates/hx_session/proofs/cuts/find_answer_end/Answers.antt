@@ -1,4 +1,4 @@
-use Rattle.std.proofs.Common.{◌-◌, length, arith, subst, Bool}
+use Rattle.std.proofs.Common.{◌-◌, arith, subst, Bool}
 use Rattle.hx_session.specs.Cutting.{Drops}
 use Rattle.hx_session.proofs.LookEnds.{found_in, lost_in}
 use Rattle.hx_session.proofs.cuts.find_answer_end.Goals as goal

@@ -1,6 +1,9 @@
 use Rattle.std.proofs.Common.{List, map, refl, sym, ap, subst, inr, Some}
 use Rattle.hx_pool.specs.SeatView.{History}
+use Rattle.hx_connecting.specs.Outcomes.{Leaving}
+use Rattle.hx_connecting.proofs.TouchedCalls.{broken_cause}
 use Rattle.hx_connecting.proofs.WayCalls.{busy_some}
+use Rattle.hx_session.proofs.ClosingLemmas.{cut_breaks}
 use Rattle.hx_session.specs.Parting.{first_of}
 use Rattle.hx_session.specs.Stages.{Exchanging as Stage}
 use Rattle.hx_session.proofs.StandingLemmas.{goes_ends, cut_keeps, cut_leaves}
@@ -31,7 +34,8 @@ returns-clause-goes g c =
     let news : List History = map f c.cut_off-served.new.seats in
     let k = c.cut_off-served.ensures in
     let is = c.drop_waiting.ensures in
-    let w = busy_some d.worker d.session (first_of d) e.busy olds news (g.N.Net.state c.args.net.now) (g.N.Net.state c.cut_off-served.new.net) (Some c.cut_off-served.result) c.requires.set.around k.meaning k.closes in
+    let w = busy_some d.worker d.session (first_of d) e.busy Leaving olds news (g.N.Net.state c.args.net.now) (g.N.Net.state c.cut_off-served.new.net) (Some c.cut_off-served.result) c.requires.set.around k.meaning
+    (broken_cause d.session e.busy Leaving _ _ (Some c.cut_off-served.result) (cut_breaks d d1 e c.args.cause c.cut_off-served.result Leaving k.cuts)) k.closes in
     goes_ends d d2 (Stage e) olds news (g.N.Net.state c.args.net.now) (g.N.Net.state c.cut_off-served.new.net) c.leave_after.result _ c.leave_after.ensures
     (record { desk = cut_keeps d d1 d2 e c.args.cause c.cut_off-served.result k.cuts is; about = k.about; loop_no = k.loop_ })
     (cut_leaves d d1 d2 e c.args.cause c.cut_off-served.result olds news k.cuts is c.requires.set (k.around d.worker c.requires.set.around))

@@ -1,10 +1,12 @@
-use Rattle.std.proofs.Common.{List, map, sym, ap, subst, inr, arith, Some, None}
+use Rattle.std.proofs.Common.{List, map, refl, sym, ap, subst, inr, arith, Some, None}
 use Rattle.hx_pool.specs.SeatView.{History}
 use Rattle.hx_connecting.specs.Sessions.{Exchanging as OnConn}
 use Rattle.hx_connecting.specs.Ways.{WayFor}
+use Rattle.hx_connecting.specs.Outcomes.{Deciding}
+use Rattle.hx_connecting.proofs.TouchedCalls.{broken_cause}
 use Rattle.hx_connecting.proofs.WayCalls.{busy_some}
 use Rattle.hx_session.specs.Seen.{conn_seen}
-use Rattle.hx_session.specs.Parting.{first_of}
+use Rattle.hx_session.specs.Parting.{first_of, outcome_of}
 use Rattle.hx_session.specs.Desks.{desk_now, DeskNow}
 use Rattle.hx_session.specs.Stages.{StageNow}
 use Rattle.hx_session.specs.Standing.{IsPlaced, IsRoutedTo}
@@ -26,7 +28,7 @@ returns g c =
     let a = c.answer-stage.ensures.answers in
     let net = g.N.Net.state c.args.net.now in
     let net2 = g.N.Net.state c.close_busy.new.net in
-    let w = busy_some d.worker d.session (first_of d) b (map f c.args.seats.now) news net net2 None set.around c.close_busy.ensures.meaning c.close_busy.ensures.closes in
+    let w = busy_some d.worker d.session (first_of d) b Deciding (map f c.args.seats.now) news net net2 None set.around c.close_busy.ensures.meaning (broken_cause d.session b Deciding net net2 None refl) c.close_busy.ensures.closes in
     let gave = gave_none d.client.sent d.client.sent_count d.gave_from st.answer.gave (omega (arith, c.requires.nothing, st.desk.given)) st.answer.gives in
     record {
       goes = record {
@@ -38,7 +40,7 @@ returns g c =
           may = tt;
           counts = tt;
           at = w.at;
-          way = subst (λ (s : StageNow). WayFor d.worker d.session (Some (OnConn b)) (conn_seen s) news w.at.added net net2 w.touch None) (sym c.answer-stage.ensures.stage) w.way;
+          way = subst (λ (s : StageNow). WayFor d.worker d.session (Some (OnConn b)) (conn_seen s) (outcome_of s) news w.at.added net net2 w.touch None) (sym c.answer-stage.ensures.stage) w.way;
         });
         picks = to_unchosen b (map f c.args.seats.now) news _ (ap chosen_seen c.answer-stage.ensures.stage);
         routed = λ back r. subst (λ (s : StageNow). IsRoutedTo back s) (sym c.answer-stage.ensures.stage) (record { to_conn = tt; to_chosen = tt });

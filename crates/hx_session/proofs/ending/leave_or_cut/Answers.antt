@@ -10,6 +10,9 @@ use Rattle.hx_session.specs.Standing.{IsPlaced, Goes}
 use Rattle.hx_session.proofs.StandingLemmas.{goes_ends, leaves_between, place_in, desk_none}
 use Rattle.hx_session.proofs.TellLemmas.{none_same}
 use Rattle.hx_session.proofs.PickLemmas.{held_none}
+use Rattle.hx_session.specs.declared.stage.Came.{Came}
+use Rattle.hx_session.specs.First.{IsEnding}
+use Rattle.hx_session.proofs.FirstLemmas.{answering_not}
 use Rattle.hx_session.proofs.ending.leave_or_cut.Goals as goal
 
 pub returns-in-Reading : goal.returns-in-Reading
@@ -23,6 +26,7 @@ returns-in-Reading g c =
           (inl (refl, refl, sym (ap (λ (x : Stage g.row.L.Denot). conn_seen (stage_now x)) c.in-Reading.is), tt, tt)) (none_same d, inr (inl refl))
           (λ none. (held_none _ (sym (ap (λ (x : Stage g.row.L.Denot). conn_seen (stage_now x)) c.in-Reading.is) ∙ none), refl));
       rooms = rooms_none g.S.HasHistory.history (room_of g.S.HasHistory.kept_from g.S.HasHistory.spare) c.args.seats.now;
+      leaves = λ held e. subst (λ (x : Came g.row.L.Denot). IsEnding x) (sym c.leave.ensures) tt;
     }
 
 pub returns-in-Choosing : goal.returns-in-Choosing
@@ -36,6 +40,7 @@ returns-in-Choosing g c =
           (inl (refl, refl, sym (ap (λ (x : Stage g.row.L.Denot). conn_seen (stage_now x)) c.in-Choosing.is), tt, tt)) (none_same d, inr (inl refl))
           (λ none. (held_none _ (sym (ap (λ (x : Stage g.row.L.Denot). conn_seen (stage_now x)) c.in-Choosing.is) ∙ none), refl));
       rooms = rooms_none g.S.HasHistory.history (room_of g.S.HasHistory.kept_from g.S.HasHistory.spare) c.args.seats.now;
+      leaves = λ held e. subst (λ (x : Came g.row.L.Denot). IsEnding x) (sym c.leave-in-Choosing.ensures) tt;
     }
 
 pub returns-in-Answering : goal.returns-in-Answering
@@ -48,4 +53,5 @@ returns-in-Answering g c =
     record {
       goes = subst (λ (x : Stage g.row.L.Denot). Goes d (stage_now x) seats net d2 c.leave_answering.result seats net) (sym c.in-Answering.is) (c.leave_answering.ensures.goes seats net p);
       rooms = rooms_none g.S.HasHistory.history (room_of g.S.HasHistory.kept_from g.S.HasHistory.spare) c.args.seats.now;
+      leaves = λ held e. absurd (answering_not _ held (sym (ap stage_now c.in-Answering.is) ∙ e));
     }

@@ -5,11 +5,16 @@ use Rattle.hx_session.specs.declared.stage.Stage.{Stage}
 use Rattle.hx_session.specs.Desks.{desk_now, DeskNow}
 use Rattle.hx_session.specs.Stages.{StandsSo, stage_now}
 use Rattle.hx_session.specs.Telling.{StopTells}
+use Rattle.hx_session.proofs.StandingLemmas.{cut_kept, own_kept}
 use Rattle.hx_session.proofs.ToldLemmas.{stop_own}
 use Rattle.hx_connecting.specs.Journals.{room_of}
 use Rattle.hx_connecting.proofs.RoomLemmas.{rooms_none}
 use Rattle.hx_pool.specs.SeatView.{History}
+use Rattle.hx_connecting.specs.Outcomes.{Leaving}
+use Rattle.hx_connecting.proofs.TouchedCalls.{broken_cause}
 use Rattle.hx_connecting.proofs.WayCalls.{busy_some}
+use Rattle.hx_session.specs.Exchanged.{exchange_now}
+use Rattle.hx_session.proofs.ClosingLemmas.{cut_breaks}
 use Rattle.hx_session.specs.Parting.{PartTouches, first_of}
 use Rattle.hx_session.proofs.StaysLemmas.{own_given}
 use Rattle.hx_session.specs.Standing.{IsPlaced}
@@ -44,7 +49,8 @@ returns-in-Exchanging-clause-touches g c =
     let net2 = g.N.Net.state c.cut_off.new.net in
     let d1 : DeskNow = desk_now g.L.Link.state c.cut_off.new.desk in
     let p = subst (λ (x : Stage g.row.L.Denot). IsPlaced d (stage_now x) olds) c.in-Exchanging.is c.requires.placed in
-    let w = busy_some d.worker d.session (first_of d) b olds news net net2 (Some c.cut_off.result) p.set.around c.cut_off.ensures.meaning c.cut_off.ensures.closes in
+    let w = busy_some d.worker d.session (first_of d) b Leaving olds news net net2 (Some c.cut_off.result) p.set.around c.cut_off.ensures.meaning
+    (broken_cause d.session b Leaving net net2 (Some c.cut_off.result) (cut_breaks d d1 (exchange_now c.in-Exchanging.exchange) _ c.cut_off.result Leaving c.cut_off.ensures.cuts)) c.cut_off.ensures.closes in
     subst (λ (x : Stage g.row.L.Denot). PartTouches d (stage_now x) olds net d1 (Ends (record { cause = cause.Stop; held = None; served = Some c.cut_off.result })) news net2) (sym c.in-Exchanging.is)
     (inr (record { touch = w.touch; may = inr refl; counts = tt; at = w.at; way = w.way }))
 
@@ -58,3 +64,15 @@ returns-in-Answering-clause-touches g c =
     let status = c.in-Answering.field-0.status in
     subst (λ (x : Stage g.row.L.Denot). PartTouches d (stage_now x) seats net d1 (Ends (record { cause = cause.Stop; held = held; served = Some c.tell_own.result })) seats net) (sym c.in-Answering.is)
     (inl (refl, refl, refl, tt, own_given d status d.taken held c.tell_own.result c.tell_own.ensures.served))
+
+pub returns-in-Answering-clause-keeps : goal.returns-in-Answering-clause-keeps
+returns-in-Answering-clause-keeps g c =
+    let d : DeskNow = desk_now g.L.Link.state c.args.desk.now in
+    let d1 : DeskNow = desk_now g.L.Link.state c.tell_own.new.desk in
+    record { desk = own_kept d d1 c.tell_own.ensures.next; about = refl; loop_no = refl }
+
+pub returns-in-Exchanging-clause-keeps : goal.returns-in-Exchanging-clause-keeps
+returns-in-Exchanging-clause-keeps g c =
+    let d : DeskNow = desk_now g.L.Link.state c.args.desk.now in
+    let d1 : DeskNow = desk_now g.L.Link.state c.cut_off.new.desk in
+    record { desk = cut_kept d d1 _ _ _ c.cut_off.ensures.cuts; about = c.cut_off.ensures.about; loop_no = c.cut_off.ensures.loop_ }

@@ -1,4 +1,4 @@
-use Rattle.std.proofs.Common.{◌≡◌, ℕ, List, length, map, sym, ap, subst, ◌∙◌}
+use Rattle.std.proofs.Common.{◌≡◌, ℕ, List, length, map, sym, ap, subst, ◌∙◌, ⊎_elim, inl, inr}
 use Rattle.std.proofs.lemmas.List.{length-map}
 use Rattle.hx_base.specs.declared.numbers.ThreadNo.{ThreadNo}
 use Rattle.hx_link.specs.Nets.{NetState}
@@ -174,3 +174,16 @@ returns-clause-picks g c =
       takes = so.takes;
       picks = c.conclude.ensures.picks k w so.asked (c.move_from_server-came.ensures.picks k w so.asked (c.move_from_client-came.ensures.picks k w so.asked (c.do_phase-came.ensures.picks k w so.asked so.picks)));
     }
+
+pub returns-clause-first : goal.returns-clause-first
+returns-clause-first g c = λ f one.
+    let state = g.L.Link.state in
+    let l = state c.args.desk.now.client in
+    ⊎_elim
+    (λ a.
+    let given = c.move_to_server-came.ensures.first l (c.move_to_client-came.ensures.first l a) in
+    let chosen = c.take_turn-came.ensures.first l (desk_now state c.move_to_server-came.new.desk) given in
+    let read = c.move_from_client-came.ensures.first l (c.do_phase-came.ensures.first l chosen) in
+    inl (c.conclude.ensures.first l (c.move_from_server-came.ensures.first l read)))
+    (λ b. inr b)
+    (c.meet_deadline-came.ensures.first f one)

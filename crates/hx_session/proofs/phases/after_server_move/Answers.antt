@@ -2,7 +2,7 @@ use Rattle.std.proofs.Common.{◌≡◌, List, map, refl, subst, inl}
 use Rattle.hx_link.specs.Nets.{NetState}
 use Rattle.hx_pool.specs.SeatView.{History}
 use Rattle.hx_session.specs.declared.moves.Move.{Move}
-use Rattle.hx_session.specs.declared.moves.Move.TheVariants.{Idle, Waits, Failed}
+use Rattle.hx_session.specs.declared.moves.Move.TheVariants.{Idle, Bytes, Ended, Waits, Failed}
 use Rattle.hx_session.specs.Desks.{desk_now, DeskNow}
 use Rattle.hx_session.specs.Exchanged.{exchange_now, ExchangeNow}
 use Rattle.hx_session.specs.Stages.{Exchanging}
@@ -12,7 +12,8 @@ use Rattle.hx_session.proofs.StandingLemmas.{desk_none, place_in}
 use Rattle.hx_session.proofs.TellLemmas.{came_then, still_same}
 use Rattle.hx_connecting.specs.Journals.{room_of}
 use Rattle.hx_connecting.proofs.RoomLemmas.{rooms_none}
-use Rattle.hx_session.proofs.PartLemmas.{still_keeps}
+use Rattle.hx_session.specs.declared.stage.Stage.TheVariants.{Exchanging as On}
+use Rattle.hx_session.proofs.PartLemmas.{goes_moved, still_keeps}
 use Rattle.hx_session.proofs.StaysLemmas.{keeps_any}
 use Rattle.hx_session.specs.Seen.{conn_seen}
 use Rattle.hx_session.proofs.PickLemmas.{kind_self}
@@ -23,6 +24,12 @@ idle_good m e f = cc
 
 waits_good : (m : Move) → m ≡ Waits → m ≡ Failed → ⊥
 waits_good m e f = cc
+
+bytes_good : (m : Move) → m ≡ Bytes → m ≡ Failed → ⊥
+bytes_good m e f = cc
+
+ended_good : (m : Move) → m ≡ Ended → m ≡ Failed → ⊥
+ended_good m e f = cc
 
 pub lose_server-requires-clause-known : goal.lose_server-requires-clause-known
 lose_server-requires-clause-known g c = gateway_text
@@ -91,3 +98,15 @@ returns-in-Waits-clause-keeps g c = λ d e t.
     let d1 : DeskNow = desk_now g.L.Link.state c.args.desk.now in
     let e1 : ExchangeNow = exchange_now c.args.exchange in
     still_keeps d d1 e e1 (subst (λ (m : Move). MoveTells m d e d1 e1) c.in-Waits.is t)
+
+pub returns-in-Bytes-clause-goes : goal.returns-in-Bytes-clause-goes
+returns-in-Bytes-clause-goes g c =
+    let d : DeskNow = desk_now g.L.Link.state c.args.desk.now in
+    let seats : List History = map g.S.HasHistory.history c.args.seats.now in
+    goes_moved d (On c.args.exchange) c.args.call.1.waits seats (g.N.Net.state c.args.net.now) (record { set = c.requires.set; good = c.requires.good (bytes_good c.args.call.0 c.in-Bytes.is) })
+
+pub returns-in-Ended-clause-goes : goal.returns-in-Ended-clause-goes
+returns-in-Ended-clause-goes g c =
+    let d : DeskNow = desk_now g.L.Link.state c.args.desk.now in
+    let seats : List History = map g.S.HasHistory.history c.args.seats.now in
+    goes_moved d (On c.args.exchange) c.args.call.1.waits seats (g.N.Net.state c.args.net.now) (record { set = c.requires.set; good = c.requires.good (ended_good c.args.call.0 c.in-Ended.is) })

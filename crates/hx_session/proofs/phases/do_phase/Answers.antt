@@ -12,6 +12,7 @@ use Rattle.hx_connecting.specs.Journals.{room_of}
 use Rattle.hx_connecting.proofs.RoomLemmas.{rooms_none}
 use Rattle.hx_session.specs.Picking.{Picks}
 use Rattle.hx_session.proofs.PickLemmas.{picks_then}
+use Rattle.hx_session.specs.First.{FreshOn}
 use Rattle.hx_session.proofs.phases.do_phase.Goals as goal
 
 pub returns-clause-told : goal.returns-clause-told
@@ -41,3 +42,6 @@ returns-clause-picks g c = λ k v hs p.
     let olds : List History = map f c.args.seats.now in
     let news : List History = map f c.do_stage.new.seats in
     picks_then k v hs olds news c.in-On.stage c.in-On.waits c.do_stage.result (subst (λ (x : Came g.row.L.Denot). Picks k v hs x olds) c.in-On.is p) c.do_stage.ensures.goes.picks
+
+pub returns-clause-first : goal.returns-clause-first
+returns-clause-first g c = λ l f. c.do_stage.ensures.first l (subst (λ (x : Came g.row.L.Denot). FreshOn l (desk_now g.L.Link.state c.args.desk.now) x) c.in-On.is f)

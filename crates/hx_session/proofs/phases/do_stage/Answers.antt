@@ -1,4 +1,4 @@
-use Rattle.std.proofs.Common.{List, map, sym, subst}
+use Rattle.std.proofs.Common.{List, map, sym, subst, ap, ◌∙◌}
 use Rattle.hx_pool.specs.SeatView.{History}
 use Rattle.hx_connecting.specs.Journals.{room_of}
 use Rattle.hx_connecting.proofs.RoomLemmas.{rooms_none}
@@ -10,6 +10,8 @@ use Rattle.std.proofs.Common.{None}
 use Rattle.hx_link.specs.Nets.{NetState}
 use Rattle.hx_session.specs.declared.stage.Came.TheVariants.{Moved}
 use Rattle.hx_session.proofs.PartLemmas.{goes_to}
+use Rattle.hx_session.specs.First.{IsFresh}
+use Rattle.hx_session.proofs.FirstLemmas.{answering_not}
 use Rattle.hx_session.proofs.phases.do_stage.Goals as goal
 
 pub returns-in-Reading : goal.returns-in-Reading
@@ -23,6 +25,7 @@ returns-in-Reading g c =
     record {
       goes = subst (λ (x : Stage g.row.L.Denot). Goes d (stage_now x) seats net d2 c.read_head.result seats net) (sym c.in-Reading.is) (c.read_head.ensures.goes seats net p);
       rooms = rooms_none g.S.HasHistory.history (room_of g.S.HasHistory.kept_from g.S.HasHistory.spare) c.args.seats.now;
+      first = λ l x. c.read_head.ensures.first l (subst (λ (y : Stage g.row.L.Denot). IsFresh l d (stage_now y)) c.in-Reading.is x);
     }
 
 pub returns-in-Answering : goal.returns-in-Answering
@@ -36,6 +39,7 @@ returns-in-Answering g c =
     record {
       goes = subst (λ (x : Stage g.row.L.Denot). Goes d (stage_now x) seats net d2 c.end_answering.result seats net) (sym c.in-Answering.is) (c.end_answering.ensures.goes seats net p);
       rooms = rooms_none g.S.HasHistory.history (room_of g.S.HasHistory.kept_from g.S.HasHistory.spare) c.args.seats.now;
+      first = λ l x. absurd (answering_not _ x.held (sym (ap stage_now c.in-Answering.is) ∙ x.is));
     }
 
 pub returns-in-Choosing-clause-goes : goal.returns-in-Choosing-clause-goes

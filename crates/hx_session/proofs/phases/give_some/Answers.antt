@@ -6,6 +6,8 @@ use Rattle.hx_session.specs.Desks.{desk_now, DeskNow}
 use Rattle.hx_session.specs.Stages.{stage_now}
 use Rattle.hx_session.proofs.StandingLemmas.{place_in}
 use Rattle.hx_session.specs.declared.moves.Move.{Move}
+use Rattle.hx_session.specs.declared.moves.Move.TheVariants.{Bytes, Waits, Ended, Failed}
+use Rattle.hx_session.proofs.FirstLemmas.{gives_fresh, idle_not}
 use Rattle.hx_session.proofs.TellLemmas.{DeskTells, gives_told}
 use Rattle.hx_session.proofs.PartLemmas.{gave_placed, goes_from_desk}
 use Rattle.hx_session.proofs.ReadLemmas.{gives_keep}
@@ -30,6 +32,7 @@ returns-in-Bytes g c =
         told = subst (λ (x : Move). DeskTells x d (stage_now c.args.stage) d2) c.in-Bytes.is (gives_told d d2 (stage_now c.args.stage) c.args.at.now.0 c.give.result c.give.ensures.gives);
       };
       rooms = rooms_none g.S.HasHistory.history (room_of g.S.HasHistory.kept_from g.S.HasHistory.spare) c.args.seats.now;
+      first = λ l f. absurd (idle_not c.give.result Bytes (gives_fresh l d d2 (stage_now c.args.stage) c.args.at.now.0 c.give.result f c.give.ensures.gives).0 c.in-Bytes.is (λ e. cc));
     }
 
 pub returns-in-Ended : goal.returns-in-Ended
@@ -49,6 +52,7 @@ returns-in-Ended g c =
         told = subst (λ (x : Move). DeskTells x d (stage_now c.args.stage) d2) c.in-Ended.is (gives_told d d2 (stage_now c.args.stage) c.args.at.now.0 c.give.result c.give.ensures.gives);
       };
       rooms = rooms_none g.S.HasHistory.history (room_of g.S.HasHistory.kept_from g.S.HasHistory.spare) c.args.seats.now;
+      first = λ l f. absurd (idle_not c.give.result Ended (gives_fresh l d d2 (stage_now c.args.stage) c.args.at.now.0 c.give.result f c.give.ensures.gives).0 c.in-Ended.is (λ e. cc));
     }
 
 pub returns-in-Idle : goal.returns-in-Idle
@@ -68,6 +72,7 @@ returns-in-Idle g c =
         told = subst (λ (x : Move). DeskTells x d (stage_now c.args.stage) d2) c.in-Idle.is (gives_told d d2 (stage_now c.args.stage) c.args.at.now.0 c.give.result c.give.ensures.gives);
       };
       rooms = rooms_none g.S.HasHistory.history (room_of g.S.HasHistory.kept_from g.S.HasHistory.spare) c.args.seats.now;
+      first = λ l f. (gives_fresh l d d2 (stage_now c.args.stage) c.args.at.now.0 c.give.result f c.give.ensures.gives).1;
     }
 
 pub returns-in-Waits : goal.returns-in-Waits
@@ -87,6 +92,7 @@ returns-in-Waits g c =
         told = subst (λ (x : Move). DeskTells x d (stage_now c.args.stage) d2) c.in-Waits.is (gives_told d d2 (stage_now c.args.stage) c.args.at.now.0 c.give.result c.give.ensures.gives);
       };
       rooms = rooms_none g.S.HasHistory.history (room_of g.S.HasHistory.kept_from g.S.HasHistory.spare) c.args.seats.now;
+      first = λ l f. absurd (idle_not c.give.result Waits (gives_fresh l d d2 (stage_now c.args.stage) c.args.at.now.0 c.give.result f c.give.ensures.gives).0 c.in-Waits.is (λ e. cc));
     }
 
 pub leave_or_cut-requires : goal.leave_or_cut-requires
@@ -109,4 +115,5 @@ returns-in-Failed g c =
           (gives_keep d d2 c.args.at.now.0 c.give.result c.give.ensures.gives).desk (gives_keep d d2 c.args.at.now.0 c.give.result c.give.ensures.gives).number c.leave_or_cut.ensures.goes
           (subst (λ (x : Move). DeskTells x d (stage_now c.args.stage) d2) c.in-Failed.is (gives_told d d2 (stage_now c.args.stage) c.args.at.now.0 c.give.result c.give.ensures.gives));
       rooms = c.leave_or_cut.ensures.rooms;
+      first = λ l f. absurd (idle_not c.give.result Failed (gives_fresh l d d2 (stage_now c.args.stage) c.args.at.now.0 c.give.result f c.give.ensures.gives).0 c.in-Failed.is (λ e. cc));
     }

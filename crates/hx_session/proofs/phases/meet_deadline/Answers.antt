@@ -11,6 +11,7 @@ use Rattle.hx_connecting.specs.Journals.{room_of}
 use Rattle.hx_connecting.proofs.RoomLemmas.{rooms_none}
 use Rattle.hx_session.specs.Seen.{conn_seen}
 use Rattle.hx_session.proofs.PickLemmas.{kind_self}
+use Rattle.hx_session.proofs.FirstLemmas.{fresh_desk}
 use Rattle.hx_session.proofs.phases.meet_deadline.Goals as goal
 
 pub returns-in-None : goal.returns-in-None
@@ -31,4 +32,5 @@ returns-in-None g c =
         told = subst (λ (x : DeskNow). IsStillTold d s x s) (sym same) (still_same d s);
       };
       rooms = rooms_none g.S.HasHistory.history (room_of g.S.HasHistory.kept_from g.S.HasHistory.spare) c.args.seats.now;
+      first = λ f one. inl (fresh_desk (g.L.Link.state c.args.desk.now.client) d d2 s same f);
     }

@@ -1,5 +1,15 @@
 use Rattle.hx_connecting.specs.Journals.{room_of}
 use Rattle.hx_connecting.proofs.RoomLemmas.{rooms_none}
+use Rattle.std.proofs.Common.{refl, sym, subst, List, map}
+use Rattle.hx_pool.specs.SeatView.{History}
+use Rattle.hx_session.specs.declared.stage.Stage.{Stage}
+use Rattle.hx_session.specs.declared.stage.Stage.TheVariants.{Choosing, Answering}
+use Rattle.hx_session.specs.declared.stage.Came.TheVariants.{On}
+use Rattle.hx_session.specs.Desks.{desk_now, DeskNow}
+use Rattle.hx_session.specs.Stages.{stage_now}
+use Rattle.hx_link.specs.Nets.{NetState}
+use Rattle.hx_session.specs.Standing.{Goes, IsPlaced}
+use Rattle.hx_session.proofs.PartLemmas.{goes_still}
 use Rattle.hx_session.proofs.phases.meet_server_late.Goals as goal
 
 pub returns-in-Reading-clause-rooms : goal.returns-in-Reading-clause-rooms
@@ -10,3 +20,21 @@ returns-in-Choosing-clause-rooms g c = rooms_none g.S.HasHistory.history (room_o
 
 pub returns-in-Answering-clause-rooms : goal.returns-in-Answering-clause-rooms
 returns-in-Answering-clause-rooms g c = rooms_none g.S.HasHistory.history (room_of g.S.HasHistory.kept_from g.S.HasHistory.spare) c.args.seats.now
+
+pub returns-in-Choosing-clause-goes : goal.returns-in-Choosing-clause-goes
+returns-in-Choosing-clause-goes g c =
+    let d : DeskNow = desk_now g.L.Link.state c.args.desk.now in
+    let seats : List History = map g.S.HasHistory.history c.args.seats.now in
+    let net : NetState = g.N.Net.state c.args.net.now in
+    let stage : Stage g.row.L.Denot = Choosing c.in-Choosing.choosing in
+    let placed = subst (λ (x : Stage g.row.L.Denot). IsPlaced d (stage_now x) seats) c.in-Choosing.is c.requires.placed in
+    subst (λ (x : Stage g.row.L.Denot). Goes d (stage_now x) seats net d (On stage c.args.own.waits) seats net) (sym c.in-Choosing.is) (goes_still d d stage c.args.own.waits seats net refl placed)
+
+pub returns-in-Answering-clause-goes : goal.returns-in-Answering-clause-goes
+returns-in-Answering-clause-goes g c =
+    let d : DeskNow = desk_now g.L.Link.state c.args.desk.now in
+    let seats : List History = map g.S.HasHistory.history c.args.seats.now in
+    let net : NetState = g.N.Net.state c.args.net.now in
+    let stage : Stage g.row.L.Denot = Answering c.in-Answering.answering in
+    let placed = subst (λ (x : Stage g.row.L.Denot). IsPlaced d (stage_now x) seats) c.in-Answering.is c.requires.placed in
+    subst (λ (x : Stage g.row.L.Denot). Goes d (stage_now x) seats net d (On stage c.args.own.waits) seats net) (sym c.in-Answering.is) (goes_still d d stage c.args.own.waits seats net refl placed)

@@ -1,4 +1,4 @@
-use Rattle.std.proofs.Common.{subst, List, map}
+use Rattle.std.proofs.Common.{subst, List, map, ap, sym, ◌∙◌}
 use Rattle.hx_session.specs.declared.stage.Came.{Came}
 use Rattle.hx_session.specs.declared.stage.Stage.{Stage}
 use Rattle.hx_session.specs.Desks.{desk_now, DeskNow}
@@ -17,6 +17,8 @@ use Rattle.hx_connecting.specs.Journals.{room_of}
 use Rattle.hx_connecting.proofs.RoomLemmas.{rooms_none}
 use Rattle.hx_session.specs.Picking.{Picks}
 use Rattle.hx_session.proofs.PickLemmas.{picks_then}
+use Rattle.hx_session.specs.First.{ReadOn}
+use Rattle.hx_session.proofs.FirstLemmas.{read_not, read_was}
 use Rattle.hx_session.proofs.phases.move_from_server.Goals as goal
 
 pub returns-clause-routed : goal.returns-clause-routed
@@ -59,3 +61,15 @@ returns-clause-picks g c = λ k v hs p.
     let on = subst (λ (x : Came g.row.L.Denot). Picks k v hs x olds) c.in-On.is p in
     let there = subst (λ (x : Stage g.row.L.Denot). Picks k v hs (On x c.in-On.waits) olds) c.in-Exchanging.is on in
     picks_then k v hs olds news (is.Exchanging c.in-Exchanging.exchange) c.in-On.waits c.read_some.result there c.read_some.ensures.goes.picks
+
+pub returns-clause-first : goal.returns-clause-first
+returns-clause-first g c = λ l r.
+    let d : DeskNow = desk_now g.L.Link.state c.args.desk.now in
+    let on = subst (λ (x : Came g.row.L.Denot). ReadOn l d x) c.in-On.is r in
+    absurd (read_not on.1.0 (exchange_now c.in-Exchanging.exchange) (sym on.1.1 ∙ ap stage_now c.in-Exchanging.is))
+
+pub returns-in_default-clause-first : goal.returns-in_default-clause-first
+returns-in_default-clause-first g c = λ l r. read_was l (desk_now g.L.Link.state c.args.desk.now) c.args.came r
+
+pub returns-in_default-stage-clause-first : goal.returns-in_default-stage-clause-first
+returns-in_default-stage-clause-first g c = λ l r. read_was l (desk_now g.L.Link.state c.args.desk.now) c.args.came r

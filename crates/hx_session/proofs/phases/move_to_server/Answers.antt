@@ -17,6 +17,8 @@ use Rattle.hx_connecting.specs.Journals.{room_of}
 use Rattle.hx_connecting.proofs.RoomLemmas.{rooms_none}
 use Rattle.hx_session.specs.Picking.{Picks}
 use Rattle.hx_session.proofs.PickLemmas.{picks_then}
+use Rattle.hx_session.specs.First.{FreshOn, IsFresh}
+use Rattle.hx_session.proofs.FirstLemmas.{fresh_not}
 use Rattle.hx_session.proofs.phases.move_to_server.Goals as goal
 
 pub returns-clause-routed : goal.returns-clause-routed
@@ -59,3 +61,9 @@ returns-clause-picks g c = λ k v hs p.
     let on = subst (λ (x : Came g.row.L.Denot). Picks k v hs x olds) c.in-On.is p in
     let there = subst (λ (x : Stage g.row.L.Denot). Picks k v hs (On x c.in-On.waits) olds) c.in-Exchanging.is on in
     picks_then k v hs olds news (is.Exchanging c.in-Exchanging.exchange) c.in-On.waits c.send_some.result there c.send_some.ensures.goes.picks
+
+pub returns-clause-first : goal.returns-clause-first
+returns-clause-first g c = λ l f.
+    let d : DeskNow = desk_now g.L.Link.state c.args.desk.now in
+    let on = subst (λ (x : Came g.row.L.Denot). FreshOn l d x) c.in-On.is f in
+    absurd (fresh_not l d (exchange_now c.in-Exchanging.exchange) (subst (λ (x : Stage g.row.L.Denot). IsFresh l d (stage_now x)) c.in-Exchanging.is on))

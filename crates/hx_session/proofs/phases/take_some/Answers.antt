@@ -6,6 +6,8 @@ use Rattle.hx_session.specs.Desks.{desk_now, DeskNow}
 use Rattle.hx_session.specs.Stages.{stage_now}
 use Rattle.hx_session.proofs.StandingLemmas.{place_in}
 use Rattle.hx_session.specs.declared.moves.Move.{Move}
+use Rattle.hx_session.specs.Moves.{ReadsClient}
+use Rattle.hx_session.proofs.FirstLemmas.{failed_read, read_ends, reads_fresh}
 use Rattle.hx_session.proofs.TellLemmas.{DeskTells, reads_told}
 use Rattle.hx_session.proofs.PartLemmas.{took_placed, goes_from_desk}
 use Rattle.hx_session.proofs.ReadLemmas.{reads_keep}
@@ -30,6 +32,7 @@ returns-in-Bytes g c =
         told = subst (λ (x : Move). DeskTells x d (stage_now c.args.stage) d2) c.in-Bytes.is (reads_told d d2 (stage_now c.args.stage) c.args.at.now.0 c.read_client.result c.read_client.ensures.reads);
       };
       rooms = rooms_none g.S.HasHistory.history (room_of g.S.HasHistory.kept_from g.S.HasHistory.spare) c.args.seats.now;
+      first = λ l f. (reads_fresh l d d2 (stage_now c.args.stage) c.args.at.now.0 c.read_client.result f c.read_client.ensures.reads).1;
     }
 
 pub returns-in-Ended : goal.returns-in-Ended
@@ -49,6 +52,7 @@ returns-in-Ended g c =
         told = subst (λ (x : Move). DeskTells x d (stage_now c.args.stage) d2) c.in-Ended.is (reads_told d d2 (stage_now c.args.stage) c.args.at.now.0 c.read_client.result c.read_client.ensures.reads);
       };
       rooms = rooms_none g.S.HasHistory.history (room_of g.S.HasHistory.kept_from g.S.HasHistory.spare) c.args.seats.now;
+      first = λ l f. (reads_fresh l d d2 (stage_now c.args.stage) c.args.at.now.0 c.read_client.result f c.read_client.ensures.reads).1;
     }
 
 pub returns-in-Idle : goal.returns-in-Idle
@@ -68,6 +72,7 @@ returns-in-Idle g c =
         told = subst (λ (x : Move). DeskTells x d (stage_now c.args.stage) d2) c.in-Idle.is (reads_told d d2 (stage_now c.args.stage) c.args.at.now.0 c.read_client.result c.read_client.ensures.reads);
       };
       rooms = rooms_none g.S.HasHistory.history (room_of g.S.HasHistory.kept_from g.S.HasHistory.spare) c.args.seats.now;
+      first = λ l f. absurd ((reads_fresh l d d2 (stage_now c.args.stage) c.args.at.now.0 c.read_client.result f c.read_client.ensures.reads).0 c.in-Idle.is);
     }
 
 pub returns-in-Waits : goal.returns-in-Waits
@@ -87,6 +92,7 @@ returns-in-Waits g c =
         told = subst (λ (x : Move). DeskTells x d (stage_now c.args.stage) d2) c.in-Waits.is (reads_told d d2 (stage_now c.args.stage) c.args.at.now.0 c.read_client.result c.read_client.ensures.reads);
       };
       rooms = rooms_none g.S.HasHistory.history (room_of g.S.HasHistory.kept_from g.S.HasHistory.spare) c.args.seats.now;
+      first = λ l f. ((reads_fresh l d d2 (stage_now c.args.stage) c.args.at.now.0 c.read_client.result f c.read_client.ensures.reads).1, (f.held, f.is));
     }
 
 pub leave_or_cut-requires : goal.leave_or_cut-requires
@@ -109,4 +115,6 @@ returns-in-Failed g c =
           (reads_keep d d2 c.args.at.now.0 c.read_client.result c.read_client.ensures.reads).desk (reads_keep d d2 c.args.at.now.0 c.read_client.result c.read_client.ensures.reads).number c.leave_or_cut.ensures.goes
           (subst (λ (x : Move). DeskTells x d (stage_now c.args.stage) d2) c.in-Failed.is (reads_told d d2 (stage_now c.args.stage) c.args.at.now.0 c.read_client.result c.read_client.ensures.reads));
       rooms = c.leave_or_cut.ensures.rooms;
+      first = λ l f. read_ends l d3 c.leave_or_cut.result (c.leave_or_cut.ensures.leaves f.held f.is)
+          (failed_read l d d2 d3 (stage_now c.args.stage) c.args.at.now.0 f (subst (λ (x : Move). ReadsClient d d2 c.args.at.now.0 x) c.in-Failed.is c.read_client.ensures.reads) c.leave_or_cut.ensures.goes.keeps.desk.who.client);
     }

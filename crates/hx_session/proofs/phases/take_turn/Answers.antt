@@ -13,6 +13,8 @@ use Rattle.hx_connecting.proofs.RoomLemmas.{rooms_none}
 use Rattle.hx_session.specs.Picking.{Picks}
 use Rattle.hx_session.specs.Seen.{conn_seen, chosen_seen}
 use Rattle.hx_session.proofs.PickLemmas.{so_turn, so_same}
+use Rattle.hx_session.specs.First.{FreshOn}
+use Rattle.hx_session.proofs.FirstLemmas.{turn_fresh}
 use Rattle.hx_session.proofs.phases.take_turn.Goals as goal
 
 pub returns-clause-placed : goal.returns-clause-placed
@@ -70,3 +72,9 @@ returns-clause-picks g c = λ d s0 hs placed p.
 
 pub returns-in_default-clause-picks : goal.returns-in_default-clause-picks
 returns-in_default-clause-picks g c = λ d s0 hs placed p. so_same c.args.back.now.servers c.args.turn.now s0 hs c.args.came (map g.S.HasHistory.history c.args.seats.now) p
+
+pub returns-clause-first : goal.returns-clause-first
+returns-clause-first g c = λ l d f.
+    let h = g.S.HasHistory.history in
+    turn_fresh l d c.args.back.now.servers c.args.turn.now c.choose_server.new.turn (map h c.args.seats.now) (map h c.choose_server.new.seats) (stage_now c.in-On.stage) (stage_now c.choose_server.result) c.choose_server.ensures.chooses
+    (subst (λ (x : Came g.row.L.Denot). FreshOn l d x) c.in-On.is f)

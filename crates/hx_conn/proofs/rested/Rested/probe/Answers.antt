@@ -1,4 +1,4 @@
-use Rattle.std.proofs.Common.{ap, subst}
+use Rattle.std.proofs.Common.{ap, arith, subst}
 use Rattle.hx_link.specs.Links.{LinkReads}
 use Rattle.hx_conn.specs.Conns.{RestedNow}
 use Rattle.hx_conn.proofs.rested.Rested.probe.Goals as goal
@@ -13,6 +13,7 @@ returns-in-Some-clause-dead g c =
         record {
           answer = c.read-got.result;
           byte = c.read-got.new.into;
+          one = omega (arith, c.read-got.auto.into);
           fits = c.read-got.ensures.fits;
           reads = reads;
           tells = c.in-Some.ensures;

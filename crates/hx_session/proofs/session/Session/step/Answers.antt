@@ -1,4 +1,4 @@
-use Rattle.std.proofs.Common.{◌∙◌, ◌<◌, arith, get_or, ℕ, List, length, map, refl, sym, ap, subst, true, None}
+use Rattle.std.proofs.Common.{◌≡◌, Some, ◌∙◌, ◌<◌, arith, get_or, ℕ, List, length, map, refl, sym, ap, subst, true, None, ⊎_elim, inl, inr, ◌⊎◌}
 use Rattle.std.proofs.lemmas.List.{length-map}
 use Rattle.hx_config.specs.declared.config.Config.{Config}
 use Rattle.hx_config.specs.declared.parts.Back.{Back}
@@ -19,7 +19,8 @@ use Rattle.hx_connecting.specs.Ways.{SomeWay}
 use Rattle.hx_session.specs.declared.step.Step.{Step}
 use Rattle.hx_session.specs.Linking.{StepLinks}
 use Rattle.hx_session.proofs.LinkLemmas.{step_links}
-use Rattle.hx_session.proofs.ExitLemmas.{done_going, done_holds, turns_set}
+use Rattle.hx_session.proofs.ExitLemmas.{done_comes, done_going, done_holds, done_same, over_same, turns_set}
+use Rattle.hx_session.specs.Doings.{IsSameSession}
 use Rattle.hx_session.proofs.StepLemmas.{Enters, enters, goes_on_here, serves_on, turn_here}
 use Rattle.hx_session.specs.Seen.{conn_seen, session_seen}
 use Rattle.hx_session.specs.Telling.{DoneTells, StepTold}
@@ -28,7 +29,7 @@ use Rattle.hx_connecting.specs.Journals.{room_of}
 use Rattle.hx_connecting.proofs.AddingLemmas.{nothing, adds_no_touch, holds_stand}
 use Rattle.hx_connecting.proofs.RoomLemmas.{rooms_none, rooms_stay}
 use Rattle.hx_session.specs.Marking.{AddsMarks}
-use Rattle.hx_session.specs.Parting.{first_of}
+use Rattle.hx_session.specs.Parting.{first_of, outcome_of}
 use Rattle.hx_session.proofs.PartingLemmas.{adds_marks, no_marks}
 use Rattle.hx_connecting.specs.Sessions.{around_with}
 use Rattle.std.specs.List.{slice_set}
@@ -38,6 +39,13 @@ use Rattle.hx_session.specs.Picked.{StepPicks}
 use Rattle.hx_session.specs.Picking.{PicksAll}
 use Rattle.hx_session.proofs.ChosenLemmas.{step_picks}
 use Rattle.hx_session.proofs.EntryLemmas.{below}
+use Rattle.hx_base.specs.declared.numbers.Millis.{Millis}
+use Rattle.std.specs.Prelude.{Option}
+use Rattle.hx_session.specs.Causes.{CanBeLate, HasCome}
+use Rattle.hx_session.specs.First.{IsFresh}
+use Rattle.hx_session.specs.Fits.{limits_of}
+use Rattle.hx_session.specs.Steps.{IsNew, ReadsFirst}
+use Rattle.hx_session.proofs.FirstLemmas.{limits_are, new_fresh}
 use Rattle.hx_session.proofs.session.Session.step.Goals as goal
 
 pub advance-stage-requires : goal.advance-stage-requires
@@ -164,13 +172,13 @@ returns-clause-links g c = λ goes.
     let r : Step = record { moved = done.moved; waits = done.waits; served = done.served; left = done.left } in
     let before : Around = around_with olds c.args.turns.now net in
     let after : Around = around_with news (slice_set c.args.turns.now scene.front.now.back c.advance-stage.new.turn) net2 in
-    let w = subst (λ (x : Stage g.row.L.Denot). SomeWay d.worker d.session (first_of d) (conn_seen (stage_now x)) (conn_seen s2) olds news net net2 done.served) value c.advance-stage.ensures.touches in
+    let w = subst (λ (x : Stage g.row.L.Denot). SomeWay d.worker d.session (first_of d) (conn_seen (stage_now x)) (conn_seen s2) (outcome_of s2) olds news net net2 done.served) value c.advance-stage.ensures.touches in
     let some = sound_one d s c.self.invariant going.going in
     let told = subst (λ (x : Stage g.row.L.Denot). DoneTells d (stage_now x) d2 done.served done.left) value c.advance-stage.ensures.told in
     let records = (step_told front d d2 s s2 news done.waits done.served done.left some told c.advance-stage.ensures.done).records in
     subst (λ (x : SessionNow). StepLinks x (session_seen front d2 s2) before after r) c.self.view_is
     (step_links front d d2 s s2 before after r keeps.who.worker keeps.who.session keeps.loop_no e.placed.set.own
-    (done_holds d2 s2 news done.waits done.left c.advance-stage.ensures.done) w records)
+    (done_holds d2 s2 news done.waits done.left c.advance-stage.ensures.done) (done_comes front d2 s2 news done.waits done.left c.advance-stage.ensures.done) w records)
 
 pub returns-clause-chooses : goal.returns-clause-chooses
 returns-clause-chooses g c = λ going.
@@ -195,3 +203,50 @@ returns-clause-chooses g c = λ going.
     let picks = subst (λ (x : Stage g.row.L.Denot). PicksAll scene.back.now.servers (get_or turns place 0) turn' (stage_now x) olds (stage_now done.stage) news) c.replace-stage.ensures.value c.advance-stage.ensures.picks in
     subst (λ (x : SessionNow). StepPicks (meaning config) x (session_seen front d2 (stage_now done.stage)) (around_with olds turns net) (around_with news (slice_set turns place turn') net2) r) c.self.view_is
     (step_picks (meaning config) front d d2 s (stage_now done.stage) scene.front.now scene.back.now turns turn' olds news net net2 r c.scene_of-scene.ensures.front c.scene_of-scene.ensures.back low holds picks)
+
+pub returns-clause-same : goal.returns-clause-same
+returns-clause-same g c =
+    let f = g.S.HasHistory.history in
+    let front = c.self.inside.front in
+    let d : DeskNow = desk_now g.L.Link.state c.self.inside.desk in
+    let d2 : DeskNow = desk_now g.L.Link.state c.advance-stage.new.desk in
+    let s : StageNow = stage_now c.self.inside.stage in
+    let done = c.advance-stage.result in
+    let s2 : StageNow = stage_now done.stage in
+    let news : List History = map f c.advance-stage.new.seats in
+    let keeps = c.advance-stage.ensures.keeps in
+    let going = c.requires.going (goes_on_here c.args.self.now.over (λ e. c.if-is_over.ensures.1 e)) in
+    let loop = subst (λ (x : SessionNow). x.client.on_loop ≡ Some x.worker.0) (sym c.self.view_is) going.loops.client in
+    record {
+      session = subst (λ (x : SessionNow). IsSameSession x (session_seen front d2 s2)) c.self.view_is
+          (done_same front d d2 s s2 news done.waits done.left keeps.who loop c.advance-stage.ensures.done);
+      about = keeps.about;
+      loop_no = keeps.loop_no;
+    }
+
+pub returns-then-is_over-clause-same : goal.returns-then-is_over-clause-same
+returns-then-is_over-clause-same g c =
+    let d : DeskNow = desk_now g.L.Link.state c.self.inside.desk in
+    let s : StageNow = stage_now c.self.inside.stage in
+    let over = ap (λ (x : SessionNow). x.over) c.self.view_is ∙ c.if-is_over.ensures.0 refl in
+    record {
+      session = subst (λ (x : SessionNow). IsSameSession x x) c.self.view_is (over_same c.self.inside.front d s c.self.invariant over);
+      about = refl;
+      loop_no = refl;
+    }
+
+pub returns-clause-first : goal.returns-clause-first
+returns-clause-first g c = λ n.
+    let front = c.self.inside.front in
+    let d : DeskNow = desk_now g.L.Link.state c.self.inside.desk in
+    let d2 : DeskNow = desk_now g.L.Link.state c.advance-stage.new.desk in
+    let s : StageNow = stage_now c.self.inside.stage in
+    let s2 : StageNow = stage_now c.advance-stage.result.stage in
+    let config = c.args.config.now in
+    let now = c.args.now.0 in
+    let scene = c.scene_of-scene in
+    let new = new_fresh front d s c.self.invariant (subst (λ (x : SessionNow). IsNew x) (sym c.self.view_is) n) in
+    let fresh = subst (λ (x : Stage g.row.L.Denot). IsFresh d.client d (stage_now x)) (sym c.replace-stage.ensures.value) new.0 in
+    let limits = limits_are (meaning config) front scene.result.front.now scene.result.back.now scene.ensures.front scene.ensures.back in
+    subst (λ (x : SessionNow). ReadsFirst x (session_seen front d2 s2) ⊎ CanBeLate (limits_of (meaning config) x.front).client x now) c.self.view_is
+    (⊎_elim (λ a. inl a) (λ b. inr (subst (λ (o : Option Millis). HasCome o d.since.0 now) (sym limits) (subst (λ (m : Millis). HasCome scene.result.front.now.client d.since.0 m.0) scene.ensures.now b))) (c.advance-stage.ensures.first fresh new.1))
