@@ -276,10 +276,10 @@ module _ (w w' : WorkerNow) (net net' : NetState) (n : SessionNo) (r : Step) (k 
   there = ap (session_of w.sessions) (found_number w.sessions n.0 s k.there) ∙ k.there
 
   worker : a.worker ≡ s.worker
-  worker = k.step.same.worker
+  worker = k.step.same.session.worker
 
   number : a.number ≡ s.number
-  number = k.step.same.number
+  number = k.step.same.session.number
 
   its : s.worker ≡ w.thread
   its = keeps.owners.its s.number.0 s there
@@ -307,7 +307,7 @@ module _ (w w' : WorkerNow) (net net' : NetState) (n : SessionNo) (r : Step) (k 
   empty = empty_over a r.left k.step.tells.leaves
 
   client_grows : BytesGrow (what_of_link s.client) (what_of_link a.client)
-  client_grows = link_grows (what_of_link s.client) (what_of_link a.client) goes.client.link
+  client_grows = link_grows (what_of_link s.client) (what_of_link a.client) k.step.same.session.client.link
 
   -- each link goes on
   pub links_step : LinksGoOn w.sessions (placed w.sessions a) w.seats w'.seats graves (graves ++ more)
@@ -377,7 +377,7 @@ module _ (w w' : WorkerNow) (net net' : NetState) (n : SessionNo) (r : Step) (k 
     owners = subst (λ (th : ThreadNo). KeepsOwners th w'.last w'.sessions w'.seats (records ++ lines) (graves ++ more)) (sym k.stays.thread)
         (subst (λ (m : ℕ). KeepsOwners w.thread m w'.sessions w'.seats (records ++ lines) (graves ++ more)) (sym k.stays.last)
         (subst (λ (ss : List SessionNow). KeepsOwners w.thread w.last ss w'.seats (records ++ lines) (graves ++ more)) (sym k.sessions)
-        (owners_go w.thread w.last w.sessions s a w.seats w'.seats r.served r.left records graves closed there worker number goes.client.dial k.step.tells.leaves
+        (owners_go w.thread w.last w.sessions s a w.seats w'.seats r.served r.left records graves closed there worker number k.step.same.session.client.dial k.step.tells.leaves
         (step_clients d x t) (step_dials d x t)
         (in_order (HasMarks s.worker s.number (is_first s) x) w.seats w'.seats d.added k.step.links.touches.adds keeps.owners.order) keeps.owners)));
     dials = subst (λ (ss : List SessionNow). KeepsDials ss w'.seats (graves ++ more) net') (sym k.sessions) dials_step;

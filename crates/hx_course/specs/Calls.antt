@@ -20,7 +20,7 @@ use Rattle.hx_connecting.specs.Exchanges.{IsClosed}
 use Rattle.hx_connecting.specs.Links.{LinkGoes}
 use Rattle.hx_connecting.specs.Sessions.{SessionNow, Exchanging}
 use Rattle.hx_connecting.specs.Touches.{Came, Had, Opened, Took, Went, Stays, Rests, Ends, EndsTakenBack, Touch}
-use Rattle.hx_session.specs.Doings.{Doing, IsSameClient}
+use Rattle.hx_session.specs.Doings.{Doing}
 use Rattle.hx_session.specs.Records.{WhereTold, told_of}
 use Rattle.hx_session.specs.Stopping.{StopTouches, stopping}
 use Rattle.hx_session.specs.Telling.{stopped}
@@ -104,8 +104,6 @@ StepTook d (Some x) t = TookLast d.before.seats x.server x.id x.came t.goes.befo
 -- what a course needs of a step beside what the worker says of it
 pub record StepGoesOn (w w' : WorkerNow) (net net' : NetState) (n : SessionNo) (r : Step) (k : Steps w w' net net' n r)
     : Type 0 where
-  -- the client's link stays what it is for, and bytes come behind its bytes
-  pub client : IsSameClient k.session.client k.after.client
   pub took : StepTook (doing_of w w' net net' n r k) k.step.links.touches.touch k.step.links.touches.touched
   pub method : IfSome r.served (λ v. IsOfMethod k.session k.after.client (conn_after w w' net net' n r k) v v.kind)
   pub conn : ConnGoesOn k.session k.after r.served
