@@ -1,0 +1,16 @@
+pub mod Numbers
+pub mod TableLemmas
+pub mod LineLemmas
+pub mod ConnLines
+pub mod ClientLemmas
+pub mod TruthLemmas
+pub mod GoingLemmas
+pub mod ConnLemmas
+pub mod OwnerLemmas
+pub mod DialLemmas
+pub mod StepLemmas
+pub mod StopLemmas
+pub mod CareLemmas
+pub mod CallLemmas
+pub mod EndLemmas
+pub mod DrainLemmas

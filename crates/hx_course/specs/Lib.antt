@@ -1,0 +1,16 @@
+pub use Rattle.hx_worker.specs.Steps
+pub use Rattle.hx_worker.specs.Stops
+pub use Rattle.hx_worker.specs.Cares
+pub use Rattle.hx_worker.specs.Admitting
+pub mod Lines
+pub mod Graves
+pub mod Places
+pub mod Clients
+pub mod Truths
+pub mod Calls
+pub mod Courses
+pub mod Sweeping
+pub mod Endings
+pub mod Conns
+pub mod Owners
+pub mod Laws
