@@ -1,2 +1,3 @@
 pub mod SeatCalls
 pub mod ThreeSeats
+pub mod RowCalls

@@ -1,5 +1,5 @@
 -- What a caller of the seat keeps: the seat's server, and where a quota stands.
-use Rattle.std.proofs.Common.{◌≡◌, Bool, ◌-◌, sym, subst, arith, Option, Some, None, Ok, Err, ⊎_elim}
+use Rattle.std.proofs.Common.{◌≡◌, Bool, sym, subst, arith, Option, Some, None, Ok, Err, ⊎_elim}
 use Rattle.std.specs.Prelude.{Result, MatchOption, MatchResult}
 use Rattle.hx_base.specs.declared.numbers.SessionNo.{SessionNo}
 use Rattle.hx_base.specs.declared.numbers.PlaceNo.{PlaceNo}

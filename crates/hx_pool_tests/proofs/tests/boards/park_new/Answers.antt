@@ -1,4 +1,4 @@
-use Rattle.std.proofs.Common.{◌≡◌, List, ap, ◌∙◌, sym, subst, arith}
+use Rattle.std.proofs.Common.{List, ap, ◌∙◌, sym, subst, arith}
 use Rattle.hx_pool.specs.declared.entries.Note.{Note}
 use Rattle.hx_pool.specs.Held.{Has}
 use Rattle.hx_pool.specs.SeatView.{About}
