@@ -1,0 +1,108 @@
+//! The boards of the servers, and a seat at each for every worker.
+ghost use Rattle.std.specs.Prelude.{◌≡◌, ◌≤◌, IfOk, map};
+ghost use Rattle.hx_config.specs.Limits.{all_servers, HasThreads};
+ghost use Rattle.hx_serve.specs.Begins.{BeginFor};
+
+use crate::fresh::Fresh;
+use hx_base::{Faced, Millis, NoMemory, ServerNo, ThreadNo};
+use hx_config::Config;
+use hx_lockboard::{LockBoard, LockSeat, lock_board};
+use std::alloc::Global;
+use std::sync::Wait;
+
+/// When rounds are counted from.
+const START: Millis = Millis(0);
+
+/// The seats of one worker on their way to it, by server.
+pub(crate) type Row<'a, R, V> = Vec<Fresh<'a, R, V>>;
+
+/// A board for each server, in order.
+pub(crate) fn boards_of<V: Faced>(
+    alloc: Global,
+    config: &Config,
+    threads: u8,
+) -> Result<Vec<LockBoard<V>>, NoMemory>
+    requires threads { HasThreads threads }
+{
+    let mut boards = Vec::new(alloc);
+    for back in config.backs.as_slice() {
+        for server in back.servers.as_slice() {
+            boards.push(lock_board(alloc, server.no, server.rules, threads, START)?)?;
+        }
+    }
+    Ok(boards)
+}
+
+/// Hands the seats of one board to the workers, in order.
+fn hand_out<'a, R: Wait, V: Faced>(
+    rt: &'a R,
+    alloc: Global,
+    board: &'a mut LockBoard<V>,
+    rows: &mut [Row<'a, R, V>],
+) -> Result<(), NoMemory> {
+    // A board gives its seats once, and this one is new.
+    if board.given != 0 {
+        return Err(NoMemory);
+    }
+    let terms = board.terms;
+    let seats = board.seats(rt, alloc)?;
+    let mut thread = 0;
+    for seat in seats {
+        let fresh = Fresh {
+            seat,
+            thread: ThreadNo(thread),
+            server: terms.server,
+            rules: terms.rules,
+        };
+        if let Some(row) = rows.get_mut(thread as usize) {
+            row.push(fresh)?;
+        }
+        thread += 1;
+    }
+    Ok(())
+}
+
+/// The seats of each worker.
+pub(crate) fn rows_of<'a, R: Wait, V: Faced>(
+    rt: &'a R,
+    alloc: Global,
+    boards: &'a mut [LockBoard<V>],
+    threads: u8,
+) -> Result<Vec<Row<'a, R, V>>, NoMemory> {
+    let mut rows = Vec::new(alloc);
+    for _ in 0..threads {
+        rows.push(Vec::new(alloc))?;
+    }
+    for board in boards.iter_mut() {
+        hand_out(rt, alloc, board, rows.as_mut_slice())?;
+    }
+    Ok(rows)
+}
+
+/// The seats of a worker: one of its thread for each server, in order. Those of its row are.
+#[tactic(auto, using(crate::proofs::Beginning::begin_more, crate::proofs::Beginning::begin_all))]
+pub(crate) fn seats_of<'a, R: Wait, V: Faced>(
+    alloc: Global,
+    config: &Config,
+    thread: ThreadNo,
+    row: Row<'a, R, V>,
+) -> Result<Vec<LockSeat<'a, R, V>>, NoMemory>
+    ensures begin { IfOk result (λ seats. BeginFor thread (all_servers config.now.backs) (map (λ s. s.history) seats.items)) }
+{
+    let mut row = row;
+    let mut seats = Vec::new(alloc);
+    let mut at = 0;
+    while let Some(server) = config.server(ServerNo(at)) {
+        if row.is_empty() {
+            return Err(NoMemory);
+        }
+        let fresh = row.remove(0);
+        if fresh.thread != thread || fresh.server != server.no || fresh.rules != server.rules {
+            return Err(NoMemory);
+        }
+        let Fresh { seat, .. } = fresh;
+        seats.push(seat)?;
+        at += 1;
+    }
+    Ok(seats)
+}
