@@ -1,14 +1,19 @@
 -- Seats at which nothing has happened hold nothing.
-use Rattle.std.proofs.Common.{◌≡◌, ◌<◌, ℕ, zero, suc, List, [], ◌∷◌, length, map, refl, sym, ap, subst, ◌∙◌, arith, Option, Some, None}
+use Rattle.std.proofs.Common.{◌≡◌, ◌<◌, ◌≤◌, ℕ, zero, suc, List, [], ◌∷◌, length, map, refl, sym, ap, subst, ◌∙◌, arith, Option, Some, None}
 use Rattle.std.specs.Prelude.{slice_get, ◌+◌, ◌++◌, take}
 use Rattle.hx_base.specs.declared.numbers.SessionNo.{SessionNo}
+use Rattle.atomic_table.specs.Seated.{TableId}
+use Rattle.hx_base.specs.declared.numbers.ServerNo.{ServerNo}
 use Rattle.hx_base.specs.declared.numbers.ThreadNo.{ThreadNo}
+use Rattle.hx_base.specs.declared.rules.PoolRules.{PoolRules}
+use Rattle.hx_lockboard.specs.Seats.{SeatView, IsUnused}
+use Rattle.hx_pool.specs.declared.board.BoardTerms.{BoardTerms}
 use Rattle.hx_config.specs.declared.parts.Server.{Server}
 use Rattle.hx_config.specs.Limits.{all_servers}
 use Rattle.hx_config.specs.Meaning.{Meaning}
 use Rattle.hx_pool.specs.declared.entries.Note.{Note}
 use Rattle.hx_pool.specs.Held.{held_by}
-use Rattle.hx_pool.specs.SeatView.{About, History, IsOneHistory, StandsInOneHistory}
+use Rattle.hx_pool.specs.SeatView.{About, History, IsOneHistory, StandsInOneHistory, about_of}
 use Rattle.hx_connecting.specs.Journals.{JournalRoom}
 use Rattle.hx_session.specs.Fits.{SeatsServe}
 use Rattle.hx_worker.specs.Workers.{Each, HasSeats, new_worker}
@@ -80,3 +85,36 @@ pub there_below : (ss : List Server) (i : ℕ) (s : Server) → slice_get ss i �
 there_below [] i s e = cc
 there_below (x ∷ ss) zero s e = omega arith
 there_below (x ∷ ss) (suc i) s e = omega (arith, there_below ss i s e)
+
+-- the same seat under other names of its thread, its server and their rules
+pub begins_as : (t t' : ThreadNo) (s s' : ServerNo) (r r' : PoolRules) (h : History) → t ≡ t' → s ≡ s' → r ≡ r' → BeginsFor t s r h → BeginsFor t' s' r' h
+begins_as t t' s s' r r' h et es er b = record {
+  thread_is = b.thread_is ∙ et;
+  server_is = b.server_is ∙ es;
+  rules_are = b.rules_are ∙ er;
+  inside = b.inside;
+  seen = b.seen;
+  mine = b.mine;
+}
+
+-- a new seat of a board
+pub begins_at : (terms : BoardTerms) (k : ℕ) (id : TableId) (v : SeatView) → v.history.about ≡ about_of terms (record { 0 = k }) id → IsUnused v.history
+    → k < terms.threads → terms.threads ≤ 16 → BeginsFor (record { 0 = k }) terms.server terms.rules v.history
+begins_at terms k id v about unused low few = record {
+  thread_is = ap (λ (a : About). a.thread) about;
+  server_is = ap (λ (a : About). a.server) about;
+  rules_are = ap (λ (a : About). a.rules) about;
+  inside = subst (λ (a : About). (a.thread.0 < a.threads) × (a.threads ≤ 16)) (sym about) (low, few);
+  seen = unused.seen;
+  mine = unused.mine;
+}
+
+-- the last of a list, and those before it
+pub last_of : {A : Type 0} (xs : List A) (x : A) → slice_get (xs ++ x ∷ []) (length xs) ≡ Some x
+last_of [] x = refl
+last_of (y ∷ xs) x = last_of xs x
+
+pub before_last : {A : Type 0} (xs : List A) (x : A) (k : ℕ) (y : A) → slice_get xs k ≡ Some y → slice_get (xs ++ x ∷ []) k ≡ Some y
+before_last [] x k y e = cc
+before_last (z ∷ xs) x zero y e = e
+before_last (z ∷ xs) x (suc k) y e = before_last xs x k y e

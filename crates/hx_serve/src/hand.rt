@@ -1,6 +1,7 @@
 //! A worker at work: its lane, its net, and turns in which the sessions with news are stepped.
 ghost use Rattle.std.specs.Prelude.{◌≡◌, ◌<◌, [], true, false, IsSome, length};
 ghost use Rattle.hx_config.specs.Views.{meaning};
+ghost use Rattle.hx_caretaker.specs.Orders.{ordered_server};
 ghost use Rattle.hx_session.specs.declared.step.Waits.TheVariants.{Ended};
 ghost use Rattle.hx_worker.specs.Workers.{session_of, HasSeats};
 
@@ -50,7 +51,9 @@ fn is_over(step: Step) -> bool
     }
 }
 
-fn server_of(what: Order) -> ServerNo {
+fn server_of(what: Order) -> ServerNo
+    ensures { result ≡ ordered_server what }
+{
     match what {
         Order::Drain(server) | Order::Ready(server) => server,
     }
@@ -223,8 +226,11 @@ impl<'a, S: Seat<Rested<N::L>>, N: Net> Hand<'a, S, N> {
 
     /// Carries out an order on a server of the configuration.
     fn run(&mut self, what: Order) {
-        if self.config.server(server_of(what)).is_some() {
-            self.worker.order(self.net, what);
+        match self.config.server(server_of(what)) {
+            Some(_server) => {
+                self.worker.order(self.net, what);
+            }
+            None => {}
         }
     }
 
@@ -326,12 +332,12 @@ impl<'a, S: Seat<Rested<N::L>>, N: Net> Hand<'a, S, N> {
     pub(crate) fn add_totals(self, sums: &mut [Totals]) {
         let Hand { worker, config, .. } = self;
         let mut worker = worker;
-        let mut at = 0u16;
-        for sum in sums.iter_mut() {
-            if config.server(ServerNo(at)).is_some() {
-                sum.add(&worker.seat_mut(ServerNo(at)).totals());
+        for at in 0..MOST_SERVERS {
+            let there = config.server(ServerNo(at)).is_some();
+            if there && (at as usize) < sums.len() {
+                let totals = worker.seat_mut(ServerNo(at)).totals();
+                sums[at as usize].add(&totals);
             }
-            at = at.saturating_add(1);
         }
     }
 }

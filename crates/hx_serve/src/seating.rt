@@ -1,11 +1,11 @@
 //! The boards of the servers, and a seat at each for every worker.
-ghost use Rattle.std.specs.Prelude.{◌≡◌, ◌≤◌, IfOk, map};
+ghost use Rattle.std.specs.Prelude.{◌≡◌, ◌≤◌, true, IfOk, map};
 ghost use Rattle.hx_config.specs.Limits.{all_servers, HasThreads};
-ghost use Rattle.hx_serve.specs.Begins.{BeginFor};
+ghost use Rattle.hx_serve.specs.Begins.{BeginFor, BeginsFor};
 
 use crate::fresh::Fresh;
 use hx_base::{Faced, Millis, NoMemory, ServerNo, ThreadNo};
-use hx_config::Config;
+use hx_config::{Config, Server};
 use hx_lockboard::{LockBoard, LockSeat, lock_board};
 use std::alloc::Global;
 use std::sync::Wait;
@@ -33,7 +33,7 @@ pub(crate) fn boards_of<V: Faced>(
     Ok(boards)
 }
 
-/// Hands the seats of one board to the workers, in order.
+/// Hands the seats of one board to the workers.
 fn hand_out<'a, R: Wait, V: Faced>(
     rt: &'a R,
     alloc: Global,
@@ -41,23 +41,23 @@ fn hand_out<'a, R: Wait, V: Faced>(
     rows: &mut [Row<'a, R, V>],
 ) -> Result<(), NoMemory> {
     // A board gives its seats once, and this one is new.
-    if board.given != 0 {
+    let given = board.given;
+    if given != 0 {
         return Err(NoMemory);
     }
     let terms = board.terms;
-    let seats = board.seats(rt, alloc)?;
-    let mut thread = 0;
-    for seat in seats {
+    let mut seats = board.seats(rt, alloc)?;
+    while let Some(seat) = seats.pop() {
+        let thread = seats.len();
         let fresh = Fresh {
             seat,
-            thread: ThreadNo(thread),
+            thread: ThreadNo(thread as u8),
             server: terms.server,
             rules: terms.rules,
         };
-        if let Some(row) = rows.get_mut(thread as usize) {
+        if let Some(row) = rows.get_mut(thread) {
             row.push(fresh)?;
         }
-        thread += 1;
     }
     Ok(())
 }
@@ -79,6 +79,13 @@ pub(crate) fn rows_of<'a, R: Wait, V: Faced>(
     Ok(rows)
 }
 
+/// Whether a seat is of that thread and that server.
+fn is_for<R: Wait, V: Faced>(fresh: &Fresh<'_, R, V>, thread: ThreadNo, server: &Server) -> bool
+    ensures fits { result ≡ true → BeginsFor thread server.now.no server.now.rules fresh.now.seat.history }
+{
+    fresh.thread == thread && fresh.server == server.no && fresh.rules == server.rules
+}
+
 /// The seats of a worker: one of its thread for each server, in order. Those of its row are.
 #[tactic(auto, using(crate::proofs::Beginning::begin_more, crate::proofs::Beginning::begin_all))]
 pub(crate) fn seats_of<'a, R: Wait, V: Faced>(
@@ -97,7 +104,7 @@ pub(crate) fn seats_of<'a, R: Wait, V: Faced>(
             return Err(NoMemory);
         }
         let fresh = row.remove(0);
-        if fresh.thread != thread || fresh.server != server.no || fresh.rules != server.rules {
+        if !is_for(&fresh, thread, server) {
             return Err(NoMemory);
         }
         let Fresh { seat, .. } = fresh;

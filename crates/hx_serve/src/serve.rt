@@ -36,8 +36,8 @@ type Seated<'a, R, L> = LockSeat<'a, R, Rested<L>>;
 struct Ends<'a, L: Link> {
     /// For the door, by worker.
     door: Vec<Giver<'a, Carried<L>>>,
-    /// For the orders, to the first worker.
-    orders: Option<Giver<'a, Carried<L>>>,
+    /// For the orders, by worker. The first one alone is used.
+    orders: Vec<Giver<'a, Carried<L>>>,
     /// By worker.
     workers: Vec<Taker<'a, Carried<L>>>,
 }
@@ -51,29 +51,41 @@ fn lanes_of<L: Link>(alloc: Global, threads: u8) -> Result<Vec<Lane<Carried<L>>>
     Ok(lanes)
 }
 
+/// The two givers and the taker of a lane.
+type Parted<'a, L> = (
+    Giver<'a, Carried<L>>,
+    Giver<'a, Carried<L>>,
+    Taker<'a, Carried<L>>,
+);
+
+/// A lane gives its ends once, and this one is new.
+fn part<L: Link>(lane: &mut Lane<Carried<L>>) -> Result<Parted<'_, L>, NoMemory> {
+    let given = lane.given;
+    if given {
+        return Err(NoMemory);
+    }
+    Ok(lane.ends())
+}
+
 /// Parts the ends of the lanes.
 fn ends_of<L: Link>(
     alloc: Global,
     lanes: &mut [Lane<Carried<L>>],
 ) -> Result<Ends<'_, L>, NoMemory> {
-    let mut ends = Ends {
-        door: Vec::new(alloc),
-        orders: None,
-        workers: Vec::new(alloc),
-    };
+    let mut door = Vec::new(alloc);
+    let mut orders = Vec::new(alloc);
+    let mut workers = Vec::new(alloc);
     for lane in lanes.iter_mut() {
-        // A lane gives its ends once, and this one is new.
-        if lane.given {
-            return Err(NoMemory);
-        }
-        let (first, second, taker) = lane.ends();
-        ends.door.push(first)?;
-        ends.workers.push(taker)?;
-        if ends.orders.is_none() {
-            ends.orders = Some(second);
-        }
+        let (first, second, taker) = part(lane)?;
+        door.push(first)?;
+        orders.push(second)?;
+        workers.push(taker)?;
     }
-    Ok(ends)
+    Ok(Ends {
+        door,
+        orders,
+        workers,
+    })
 }
 
 /// The worker of a net's thread.
@@ -173,16 +185,7 @@ where
     let mut lanes = lanes;
     let mut lane = lane;
     let end = run_threads(
-        rt,
-        alloc,
-        config,
-        hands.as_mut_slice(),
-        &mut lanes,
-        door,
-        orders,
-        sink,
-        &mut lane,
-        clock,
+        rt, alloc, config, &mut hands, &mut lanes, door, orders, sink, &mut lane, clock,
     );
     match end {
         OrdersEnd::SourceFault => Served::Ending(Ending::SourceFault),
@@ -204,6 +207,7 @@ fn done(text: Result<Vec<u8>, NoMemory>) -> Served
 
 /// Serves a plan until a stop comes.
 fn serve<
+    'a,
     R: Threads + Wait + Sync,
     N: Net + Send,
     D: Door<L = N::L> + Send,
@@ -211,12 +215,12 @@ fn serve<
     K: Sink + Send,
     C: Clock + Sync,
 >(
-    rt: &R,
+    rt: &'a R,
     alloc: Global,
-    plan: &Plan,
+    plan: &'a Plan,
     orders: &mut S,
     door: &mut D,
-    nets: &mut [N],
+    nets: &'a mut [N],
     clock: &C,
     sink: &mut K,
 ) -> Result<Served, NoMemory>
@@ -232,16 +236,14 @@ where
     let rows = rows_of(rt, alloc, boards.as_mut_slice(), threads)?;
     let Ends {
         door: givers,
-        orders: first,
+        orders: mut lanes,
         workers,
     } = ends_of(alloc, all.as_mut_slice())?;
     let hands = hands_of(alloc, config, rows, nets, workers)?;
-    let Some(lane) = first else {
-        return Err(NoMemory);
-    };
-    if hands.len() != threads as usize {
+    if hands.len() != threads as usize || lanes.is_empty() {
         return Err(NoMemory);
     }
+    let lane = lanes.remove(0);
     let lanes = Lanes::new(givers);
     Ok(serve_with(
         rt, alloc, config, hands, lanes, lane, orders, door, clock, sink,

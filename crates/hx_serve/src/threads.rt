@@ -42,7 +42,7 @@ fn work_at_door<
     C: Clock + Sync,
 >(
     rt: &R,
-    hands: &mut [Hand<'_, S, N>],
+    hands: &mut Vec<Hand<'_, S, N>>,
     lanes: &mut Lanes<'_, N::L>,
     door: &mut D,
     clock: &C,
@@ -53,7 +53,7 @@ where
 {
     join(
         rt,
-        || work_all(rt, hands, clock),
+        || work_all(rt, hands.as_mut_slice(), clock),
         || lanes.serve(rt, door, stopped),
     );
 }
@@ -71,7 +71,7 @@ pub(crate) fn run_threads<
     rt: &R,
     alloc: Global,
     config: &Config,
-    hands: &mut [Hand<'_, S, N>],
+    hands: &mut Vec<Hand<'_, S, N>>,
     lanes: &mut Lanes<'_, N::L>,
     door: &mut D,
     orders: &mut O,
@@ -84,12 +84,10 @@ where
     ensures { EndsFor (O.state orders.old) (O.state orders.new) (K.state sink.old) (K.state sink.new) result }
 {
     let stopped = AtomicU64::new(0);
-    let (end, _) = join_mut(
-        rt,
-        &mut || -> OrdersEnd
-            ensures { EndsFor (O.state orders.entry.now) (O.state orders.exit.now) (K.state sink.entry.now) (K.state sink.exit.now) result }
-        { run_orders(rt, alloc, config, orders, sink, lane, &stopped) },
-        &mut || work_at_door(rt, hands, lanes, door, clock, &stopped),
-    );
+    let mut reads = || -> OrdersEnd
+        ensures { EndsFor (O.state orders.entry.now) (O.state orders.exit.now) (K.state sink.entry.now) (K.state sink.exit.now) result }
+    { run_orders(rt, alloc, config, orders, sink, lane, &stopped) };
+    let mut works = || work_at_door(rt, hands, lanes, door, clock, &stopped);
+    let (end, _) = join_mut(rt, &mut reads, &mut works);
     end
 }
