@@ -118,3 +118,10 @@ pub before_last : {A : Type 0} (xs : List A) (x : A) (k : ℕ) (y : A) → slice
 before_last [] x k y e = cc
 before_last (z ∷ xs) x zero y e = e
 before_last (z ∷ xs) x (suc k) y e = before_last xs x k y e
+
+-- what a pop gave, and what it left
+pub popped : {A : Type 0} (xs ys : List A) (x : A) → xs ≡ ys ++ x ∷ [] → slice_get xs (length ys) ≡ Some x
+popped xs ys x e = subst (λ l. slice_get l (length ys) ≡ Some x) (sym e) (last_of ys x)
+
+pub left_by_pop : {A : Type 0} (xs ys : List A) (x : A) (k : ℕ) (y : A) → xs ≡ ys ++ x ∷ [] → slice_get ys k ≡ Some y → slice_get xs k ≡ Some y
+left_by_pop xs ys x k y e h = subst (λ l. slice_get l k ≡ Some y) (sym e) (before_last ys x k y h)

@@ -1,9 +1,9 @@
 -- What the worker's calls leave of the net's loop, and which sessions are there.
 use Rattle.std.proofs.Common.{◌≡◌, ◌<◌, ℕ, List, [], ◌∷◌, refl, sym, ap, ◌∙◌, subst, Bool, true, false, Option, Some, None, eq-eqb, ne_eqb}
-use Rattle.std.specs.Prelude.{IsSome, if◌then◌else◌, ◌==◌, nat_lt}
+use Rattle.std.specs.Prelude.{IsSome, if◌then◌else◌, ◌==◌, nat_eq, nat_lt}
 use mathlib.Core.Logic.{dite}
 use native.Mathlib.Decide.{ℕ_discrete}
-use Rattle.std.proofs.lemmas.Bool.{ltb-true}
+use Rattle.std.proofs.lemmas.Bool.{eqb-true, ltb-true}
 use Rattle.hx_base.specs.declared.numbers.SessionNo.{SessionNo}
 use Rattle.hx_link.specs.Told.{LinkState}
 use Rattle.hx_link.specs.Nets.{NetState}
@@ -92,3 +92,7 @@ next_over (s ∷ rest) n m e =
       | true ↦ λ l q. subst (λ (k : SessionNo). n < k.0) (some_is s.number m q) (ltb-true n s.number.0 l)
       | false ↦ λ l q. next_over rest n m q
     ] in go (nat_lt n s.number.0) refl e
+
+-- and so is the one of its number
+pub there_by : (ss : List SessionNow) (n : ℕ) (m : SessionNo) (k : ℕ) → next_above ss n ≡ Some m → nat_eq m.0 k ≡ true → IsSome (session_of ss k)
+there_by ss n m k e same = subst (λ (j : ℕ). IsSome (session_of ss j)) (eqb-true m.0 k same) (next_there ss n m e)

@@ -3,6 +3,7 @@ use Rattle.std.specs.Prelude.{◌≡◌, ◌<◌, ◌≤◌, List, [], ◌∷◌
 use Rattle.hx_base.specs.declared.numbers.ServerNo.{ServerNo}
 use Rattle.hx_base.specs.declared.numbers.ThreadNo.{ThreadNo}
 use Rattle.hx_base.specs.declared.rules.PoolRules.{PoolRules}
+use Rattle.hx_config.specs.Meaning.{Meaning}
 use Rattle.hx_config.specs.declared.parts.Server.{Server}
 use Rattle.hx_pool.specs.SeatView.{History}
 
@@ -20,3 +21,13 @@ abbrev pub BeginFor : ThreadNo → List Server → List History → Type 0
 BeginFor t [] [] = ⊤
 BeginFor t (s ∷ servers) (h ∷ seats) = BeginsFor t s.no s.rules h × BeginFor t servers seats
 BeginFor t servers seats = ⊥
+
+-- the seats of one worker
+pub record SeatsNow : Type 0 where
+  pub thread : ThreadNo
+  pub config : Meaning
+  pub seats : List History
+
+-- seats with these histories
+abbrev pub seats_now : ThreadNo → Meaning → List History → SeatsNow
+seats_now thread config seats = record { thread = thread; config = config; seats = seats }

@@ -117,6 +117,7 @@ impl<'a, S: Seat<Rested<N::L>>, N: Net> Hand<'a, S, N> {
     }
 
     /// Whether the session of that number is there.
+    #[tactic(auto, using(crate::proofs::Going::there_by))]
     fn is_there(&self, n: SessionNo) -> bool
         ensures there { result ≡ true → IsSome (session_of self.now.worker.sessions n.0) }
     {
@@ -183,6 +184,7 @@ impl<'a, S: Seat<Rested<N::L>>, N: Net> Hand<'a, S, N> {
     }
 
     /// All go on, by rising number.
+    #[tactic(auto, using(crate::proofs::Going::next_there, crate::proofs::Going::next_over))]
     fn visit_all(&mut self, now: Millis) {
         let mut after = SessionNo(0);
         while let Some(n) = self.worker.next_session(after) {
@@ -277,6 +279,7 @@ impl<'a, S: Seat<Rested<N::L>>, N: Net> Hand<'a, S, N> {
     }
 
     /// Each session makes a step, by rising number. It says whether one moved.
+    #[tactic(auto, using(crate::proofs::Going::next_there, crate::proofs::Going::next_over))]
     fn round(&mut self, now: Millis) -> bool {
         let mut moved = false;
         let mut after = SessionNo(0);

@@ -7,7 +7,9 @@ use crate::fresh::Fresh;
 use hx_base::{Faced, Millis, NoMemory, ServerNo, ThreadNo};
 use hx_config::{Config, Server};
 use hx_lockboard::{LockBoard, LockSeat, lock_board};
+use hx_pool::HasHistory;
 use std::alloc::Global;
+use std::marker::Model;
 use std::sync::Wait;
 
 /// When rounds are counted from.
@@ -62,8 +64,8 @@ fn hand_out<'a, R: Wait, V: Faced>(
     Ok(())
 }
 
-/// The seats of each worker.
-pub(crate) fn rows_of<'a, R: Wait, V: Faced>(
+/// The rows of the workers' seats.
+fn rows_of<'a, R: Wait, V: Faced>(
     rt: &'a R,
     alloc: Global,
     boards: &'a mut [LockBoard<V>],
@@ -86,6 +88,26 @@ fn is_for<R: Wait, V: Faced>(fresh: &Fresh<'_, R, V>, thread: ThreadNo, server: 
     fresh.thread == thread && fresh.server == server.no && fresh.rules == server.rules
 }
 
+/// The next seat of a row, which is that of the thread at the server.
+fn next_seat<'a, R: Wait, V: Faced>(
+    row: &mut Row<'a, R, V>,
+    thread: ThreadNo,
+    server: &Server,
+) -> Result<LockSeat<'a, R, V>, NoMemory>
+    ensures { IfOk result (λ s. BeginsFor thread server.now.no server.now.rules s.history) }
+{
+    if row.is_empty() {
+        return Err(NoMemory);
+    }
+    let fresh = row.remove(0);
+    if is_for(&fresh, thread, server) {
+        let Fresh { seat, .. } = fresh;
+        Ok(seat)
+    } else {
+        Err(NoMemory)
+    }
+}
+
 /// The seats of a worker: one of its thread for each server, in order. Those of its row are.
 #[tactic(auto, using(crate::proofs::Beginning::begin_more, crate::proofs::Beginning::begin_all))]
 pub(crate) fn seats_of<'a, R: Wait, V: Faced>(
@@ -100,16 +122,68 @@ pub(crate) fn seats_of<'a, R: Wait, V: Faced>(
     let mut seats = Vec::new(alloc);
     let mut at = 0;
     while let Some(server) = config.server(ServerNo(at)) {
-        if row.is_empty() {
-            return Err(NoMemory);
-        }
-        let fresh = row.remove(0);
-        if !is_for(&fresh, thread, server) {
-            return Err(NoMemory);
-        }
-        let Fresh { seat, .. } = fresh;
-        seats.push(seat)?;
+        seats.push(next_seat(&mut row, thread, server)?)?;
         at += 1;
     }
     Ok(seats)
+}
+
+/// The seats of one worker, at which nothing has happened: one of its thread for each server of the configuration.
+#[derive(Drop)]
+pub(crate) struct Seats<'a, S: HasHistory> {
+    thread: ThreadNo,
+    config: &'a Config,
+    seats: Vec<S>,
+}
+
+impl<'a, S: HasHistory> Model for Seats<'a, S> {
+    ghost use Rattle.std.specs.Prelude.{map};
+    ghost use Rattle.hx_config.specs.Limits.{all_servers};
+    ghost use Rattle.hx_config.specs.Views.{meaning};
+    ghost use Rattle.hx_serve.specs.Begins.{BeginFor, SeatsNow, seats_now};
+
+    ghost Value = { SeatsNow };
+
+    ghost view = { λ s. seats_now s.thread (meaning s.config.now) (map S.history s.seats.items) };
+
+    ghost invariant = { λ s. BeginFor s.thread (all_servers s.config.now.backs) (map S.history s.seats.items) };
+}
+
+impl<'a, S: HasHistory> Seats<'a, S> {
+    /// Their parts.
+    pub(crate) fn into_parts(self) -> (ThreadNo, &'a Config, Vec<S>)
+        ensures begin { BeginFor result.0 (all_servers result.1.now.backs) (map S.history result.2.items) }
+    {
+        let Seats {
+            thread,
+            config,
+            seats,
+        } = self;
+        (thread, config, seats)
+    }
+}
+
+/// The seats of each worker, in order of the threads.
+pub(crate) fn seats_by_worker<'a, R: Wait, V: Faced>(
+    rt: &'a R,
+    alloc: Global,
+    config: &'a Config,
+    boards: &'a mut [LockBoard<V>],
+    threads: u8,
+) -> Result<Vec<Seats<'a, LockSeat<'a, R, V>>>, NoMemory> {
+    let mut rows = rows_of(rt, alloc, boards, threads)?;
+    let mut all = Vec::new(alloc);
+    for thread in 0..threads {
+        if rows.is_empty() {
+            return Err(NoMemory);
+        }
+        let thread = ThreadNo(thread);
+        let seats = seats_of(alloc, config, thread, rows.remove(0))?;
+        all.push(Seats {
+            thread,
+            config,
+            seats,
+        })?;
+    }
+    Ok(all)
 }

@@ -1,6 +1,4 @@
 //! The threads of a run, under fork calls that can't be refused.
-ghost use Rattle.std.specs.Thread.{IsSync};
-ghost use Rattle.hx_serve.specs.Orders.{EndsFor};
 
 use crate::doorman::Lanes;
 use crate::endings::OrdersEnd;
@@ -16,7 +14,7 @@ use hx_pool::Seat;
 use std::alloc::Global;
 use std::sync::Wait;
 use std::sync::atomic::AtomicU64;
-use std::thread::{Threads, for_each_mut, join, join_mut};
+use std::thread::{Threads, for_each_mut, join};
 
 /// Each worker serves on a thread of its own.
 fn work_all<R: Threads + Wait + Sync, S: Seat<Rested<N::L>> + Send, N: Net + Send, C: Clock + Sync>(
@@ -81,13 +79,12 @@ pub(crate) fn run_threads<
 ) -> OrdersEnd
 where
     N::L: Send,
-    ensures { EndsFor (O.state orders.old) (O.state orders.new) (K.state sink.old) (K.state sink.new) result }
 {
     let stopped = AtomicU64::new(0);
-    let mut reads = || -> OrdersEnd
-        ensures { EndsFor (O.state orders.entry.now) (O.state orders.exit.now) (K.state sink.entry.now) (K.state sink.exit.now) result }
-    { run_orders(rt, alloc, config, orders, sink, lane, &stopped) };
-    let mut works = || work_at_door(rt, hands, lanes, door, clock, &stopped);
-    let (end, _) = join_mut(rt, &mut reads, &mut works);
+    let (end, ()) = join(
+        rt,
+        || run_orders(rt, alloc, config, orders, sink, lane, &stopped),
+        || work_at_door(rt, hands, lanes, door, clock, &stopped),
+    );
     end
 }
