@@ -125,3 +125,10 @@ popped xs ys x e = subst (λ l. slice_get l (length ys) ≡ Some x) (sym e) (las
 
 pub left_by_pop : {A : Type 0} (xs ys : List A) (x : A) (k : ℕ) (y : A) → xs ≡ ys ++ x ∷ [] → slice_get ys k ≡ Some y → slice_get xs k ≡ Some y
 left_by_pop xs ys x k y e h = subst (λ l. slice_get l k ≡ Some y) (sym e) (before_last ys x k y h)
+
+-- there are as many seats as servers
+pub as_many : (t : ThreadNo) (hs : List History) (ss : List Server) → SeatsServe t hs ss → length hs ≡ length ss
+as_many t [] [] s = refl
+as_many t [] (x ∷ ss) s = elim s [ ]
+as_many t (h ∷ hs) [] s = elim s [ ]
+as_many t (h ∷ hs) (x ∷ ss) s = ap (λ n. suc n) (as_many t hs ss s.3)

@@ -104,7 +104,7 @@ fn done(text: Result<Vec<u8>, NoMemory>) -> Served
     }
 }
 
-/// Serves with these seats, nets and lanes until a stop comes.
+/// Serves with these seats, where they were made, and these nets and lanes until a stop comes.
 pub(crate) fn serve_with<
     'a,
     R: Threads + Wait + Sync,
@@ -118,6 +118,7 @@ pub(crate) fn serve_with<
     rt: &R,
     alloc: Global,
     config: &Config,
+    made: Result<(), NoMemory>,
     rows: Vec<Seats<'a, T>>,
     ends: Ends<'a, N::L>,
     nets: &'a mut [N],
@@ -130,6 +131,7 @@ where
     N::L: Send,
     ensures { IfOk result IsServed }
 {
+    made?;
     let Ends {
         door: givers,
         orders: mut others,

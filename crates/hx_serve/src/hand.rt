@@ -1,5 +1,6 @@
 //! A worker at work: its lane, its net, and turns in which the sessions with news are stepped.
 ghost use Rattle.std.specs.Prelude.{◌≡◌, ◌<◌, [], true, false, IsSome, length};
+ghost use Rattle.hx_config.specs.Limits.{all_servers};
 ghost use Rattle.hx_config.specs.Views.{meaning};
 ghost use Rattle.hx_caretaker.specs.Orders.{ordered_server};
 ghost use Rattle.hx_session.specs.declared.step.Waits.TheVariants.{Ended};
@@ -10,8 +11,9 @@ use hx_base::{Millis, NoMemory, Order, ServerNo, SessionNo, Totals};
 use hx_config::Config;
 use hx_conn::Rested;
 use hx_handoff::{Errand, Taker};
-use hx_link::{Clock, Net};
+use hx_link::{Clock, Link, Net};
 use hx_pool::Seat;
+use hx_resting::NO_TOTALS;
 use hx_session::{Step, Waits};
 use hx_stats::Tally;
 use hx_worker::{NoEntry, Worker};
@@ -56,6 +58,32 @@ fn server_of(what: Order) -> ServerNo
 {
     match what {
         Order::Drain(server) | Order::Ready(server) => server,
+    }
+}
+
+/// Whether there is a server of that number.
+fn is_server(config: &Config, at: u16) -> bool
+    ensures there { result ≡ true → at < length (all_servers config.now.backs) }
+{
+    match config.server(ServerNo(at)) {
+        Some(_server) => true,
+        None => false,
+    }
+}
+
+/// The totals of a worker's seat, or none where there is no such server.
+fn totals_at<S: Seat<Rested<L>>, L: Link>(
+    worker: &mut Worker<'_, S, L>,
+    config: &Config,
+    at: u16,
+) -> Totals
+    requires seats { length worker.old.seats ≡ length (all_servers config.now.backs) }
+    ensures seats { length worker.new.seats ≡ length worker.old.seats }
+{
+    if is_server(config, at) {
+        worker.seat_mut(ServerNo(at)).totals()
+    } else {
+        NO_TOTALS
     }
 }
 
@@ -336,10 +364,9 @@ impl<'a, S: Seat<Rested<N::L>>, N: Net> Hand<'a, S, N> {
         let Hand { worker, config, .. } = self;
         let mut worker = worker;
         for at in 0..MOST_SERVERS {
-            let there = config.server(ServerNo(at)).is_some();
-            if there && (at as usize) < sums.len() {
-                let totals = worker.seat_mut(ServerNo(at)).totals();
-                sums[at as usize].add(&totals);
+            let totals = totals_at(&mut worker, config, at);
+            if let Some(sum) = sums.get_mut(at as usize) {
+                sum.add(&totals);
             }
         }
     }

@@ -163,27 +163,40 @@ impl<'a, S: HasHistory> Seats<'a, S> {
     }
 }
 
-/// The seats of each worker, in order of the threads.
+/// Adds the seats of a worker.
+fn add_seats<'a, S: HasHistory + Drop>(
+    all: &mut Vec<Seats<'a, S>>,
+    thread: ThreadNo,
+    config: &'a Config,
+    seats: Vec<S>,
+) -> Result<(), NoMemory>
+    requires begin { BeginFor thread (all_servers config.now.backs) (map S.history seats.items) }
+{
+    all.push(Seats {
+        thread,
+        config,
+        seats,
+    })?;
+    Ok(())
+}
+
+/// Adds the seats of each worker, in order of the threads.
 pub(crate) fn seats_by_worker<'a, R: Wait, V: Faced>(
     rt: &'a R,
     alloc: Global,
     config: &'a Config,
     boards: &'a mut [LockBoard<V>],
     threads: u8,
-) -> Result<Vec<Seats<'a, LockSeat<'a, R, V>>>, NoMemory> {
+    all: &mut Vec<Seats<'a, LockSeat<'a, R, V>>>,
+) -> Result<(), NoMemory> {
     let mut rows = rows_of(rt, alloc, boards, threads)?;
-    let mut all = Vec::new(alloc);
     for thread in 0..threads {
         if rows.is_empty() {
             return Err(NoMemory);
         }
         let thread = ThreadNo(thread);
         let seats = seats_of(alloc, config, thread, rows.remove(0))?;
-        all.push(Seats {
-            thread,
-            config,
-            seats,
-        })?;
+        add_seats(all, thread, config, seats)?;
     }
-    Ok(all)
+    Ok(())
 }

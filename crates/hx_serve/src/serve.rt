@@ -6,13 +6,11 @@ ghost use Rattle.hx_serve.specs.Runs.{IsServed, Closes, IsRefused, IsToldOf, Was
 
 use crate::crew::serve_with;
 use crate::endings::Served;
-use crate::guest::Carried;
-use crate::lanes::{ends_of, lanes_of};
+use crate::lanes::{Ends, ends_of, lanes_of};
 use crate::seating::{boards_of, seats_by_worker};
 use hx_base::NoMemory;
 use hx_conn::Rested;
 use hx_doors::{Cabinet, Door};
-use hx_handoff::Lane;
 use hx_link::{Clock, Net, Sink, Source};
 use hx_lockboard::LockBoard;
 use hx_startup::{Ending, Plan, Start, end, start_up};
@@ -20,7 +18,7 @@ use std::alloc::Global;
 use std::sync::Wait;
 use std::thread::Threads;
 
-/// Serves a plan at these boards and over these lanes until a stop comes.
+/// Serves a plan at these boards and over the lanes of these ends until a stop comes.
 fn serve_at<
     'a,
     R: Threads + Wait + Sync,
@@ -34,7 +32,7 @@ fn serve_at<
     alloc: Global,
     plan: &'a Plan,
     boards: &'a mut [LockBoard<Rested<N::L>>],
-    all: &'a mut [Lane<Carried<N::L>>],
+    ends: Ends<'a, N::L>,
     nets: &'a mut [N],
     orders: &mut S,
     door: &mut D,
@@ -46,10 +44,10 @@ where
     ensures { IfOk result IsServed }
 {
     let config = &plan.config;
-    let ends = ends_of(alloc, all)?;
-    let rows = seats_by_worker(rt, alloc, config, boards, plan.threads)?;
+    let mut rows = Vec::new(alloc);
+    let made = seats_by_worker(rt, alloc, config, boards, plan.threads, &mut rows);
     serve_with(
-        rt, alloc, config, rows, ends, nets, orders, door, clock, sink,
+        rt, alloc, config, made, rows, ends, nets, orders, door, clock, sink,
     )
 }
 
@@ -77,12 +75,13 @@ where
 {
     let mut boards = boards_of(alloc, &plan.config, plan.threads)?;
     let mut all = lanes_of(alloc, plan.threads)?;
+    let ends = ends_of(alloc, all.as_mut_slice())?;
     serve_at(
         rt,
         alloc,
         plan,
         boards.as_mut_slice(),
-        all.as_mut_slice(),
+        ends,
         nets,
         orders,
         door,
