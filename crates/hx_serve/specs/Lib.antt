@@ -1,0 +1,4 @@
+pub mod Begins
+pub mod Hands
+pub mod Orders
+pub mod Runs

@@ -1,0 +1,11 @@
+use Rattle.std.proofs.Common.{◌∙◌, ap, codes, Some}
+use Rattle.clap.specs.Words.{Rule, rule_of}
+use Rattle.clap.specs.declared.builder.ArgAction.TheVariants.{SetTrue}
+use Rattle.hx_startup.proofs.options.check_arg.Goals as goal
+
+pub returns-clause-rule : goal.returns-clause-rule
+returns-clause-rule c =
+    ap rule_of c.help.ensures
+    ∙ ap rule_of c.action.ensures
+    ∙ ap (λ (r : Rule). record r { action = Some SetTrue }) (ap rule_of c.long.ensures
+    ∙ ap (λ (r : Rule). record r { long = Some (codes "check") }) c.new.ensures.rule)

@@ -1,0 +1,4 @@
+pub mod Options
+pub mod Files
+pub mod Listens
+pub mod Starts
