@@ -5,6 +5,7 @@ mod checks;
 mod configs;
 mod framings;
 mod modes;
+mod replays;
 
 use crate::replay_main;
 use hx_link::{MemorySink, MemorySource, Reading, Writing};
