@@ -123,17 +123,96 @@ fn runs_end_as_they_must(rt: HostRuntime) -> Result<(), Fail> {
     let unknown = "unknown order\nweb/s1 open 0 park 0 take 0 over 0 care 0 close 0\n";
     let cases = [
         (QUIET, 0, totals),
-        (Case { orders: "bogus\nstop\n", ..QUIET }, 0, unknown),
-        (Case { client: true, ..QUIET }, 0, told),
-        (Case { words: "--config f --threads 3", client: true, ..QUIET }, 0, told),
-        (Case { orders: "drain web/s1\nready web/s1\nstop", ..QUIET }, 0, totals),
-        (Case { words: "--config f --check", ..QUIET }, 0, "config holds\n"),
-        (Case { words: "--config g", ..QUIET }, 2, ""),
-        (Case { fails: (1, 0, 0), ..QUIET }, 2, ""),
-        (Case { fails: (0, 1, 0), ..QUIET }, 2, ""),
-        (Case { fails: (0, 0, 1), ..QUIET }, 3, ""),
-        (Case { orders: "bogus\n", fails: (0, 0, 1), ..QUIET }, 3, ""),
-        (Case { file: "listen web\n  http-reuse sometimes\n", ..QUIET }, 4, "config 2 2\n"),
+        (
+            Case {
+                orders: "bogus\nstop\n",
+                ..QUIET
+            },
+            0,
+            unknown,
+        ),
+        (
+            Case {
+                client: true,
+                ..QUIET
+            },
+            0,
+            told,
+        ),
+        (
+            Case {
+                words: "--config f --threads 3",
+                client: true,
+                ..QUIET
+            },
+            0,
+            told,
+        ),
+        (
+            Case {
+                orders: "drain web/s1\nready web/s1\nstop",
+                ..QUIET
+            },
+            0,
+            totals,
+        ),
+        (
+            Case {
+                words: "--config f --check",
+                ..QUIET
+            },
+            0,
+            "config holds\n",
+        ),
+        (
+            Case {
+                words: "--config g",
+                ..QUIET
+            },
+            2,
+            "",
+        ),
+        (
+            Case {
+                fails: (1, 0, 0),
+                ..QUIET
+            },
+            2,
+            "",
+        ),
+        (
+            Case {
+                fails: (0, 1, 0),
+                ..QUIET
+            },
+            2,
+            "",
+        ),
+        (
+            Case {
+                fails: (0, 0, 1),
+                ..QUIET
+            },
+            3,
+            "",
+        ),
+        (
+            Case {
+                orders: "bogus\n",
+                fails: (0, 0, 1),
+                ..QUIET
+            },
+            3,
+            "",
+        ),
+        (
+            Case {
+                file: "listen web\n  http-reuse sometimes\n",
+                ..QUIET
+            },
+            4,
+            "config 2 2\n",
+        ),
     ];
     for (case, status, text) in cases {
         let (words, mut door) = begin(&rt, case)?;
