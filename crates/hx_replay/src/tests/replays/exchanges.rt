@@ -3,8 +3,7 @@
 use super::Case;
 
 /// Two requests at once.
-const PIPELINED: Case = Case {
-    name: "two requests at once",
+pub const PIPELINED: Case = Case {
     script: br#"hx-script 1
 config 4
 listen web
@@ -43,8 +42,7 @@ end
 };
 
 /// An answer in chunks with a trailer, cut in its middle.
-const CHUNKS: Case = Case {
-    name: "an answer in chunks with a trailer, cut in its middle",
+pub const CHUNKS: Case = Case {
     script: br#"hx-script 1
 config 4
 listen web
@@ -81,8 +79,7 @@ end
 };
 
 /// An answer to HEAD tells a length and has no body.
-const HEAD: Case = Case {
-    name: "an answer to HEAD tells a length and has no body",
+pub const HEAD: Case = Case {
     script: br#"hx-script 1
 config 4
 listen web
@@ -117,8 +114,7 @@ end
 };
 
 /// Fields of the connection are left out.
-const FIELDS: Case = Case {
-    name: "fields of the connection are left out",
+pub const FIELDS: Case = Case {
     script: br#"hx-script 1
 config 4
 listen web
@@ -152,8 +148,7 @@ end
 };
 
 /// Two servers in turn.
-const IN_TURN: Case = Case {
-    name: "two servers in turn",
+pub const IN_TURN: Case = Case {
     script: br#"hx-script 1
 config 5
 listen web
@@ -201,8 +196,7 @@ end
 };
 
 /// The server whose turn it is drains.
-const ONE_DRAINS: Case = Case {
-    name: "the server whose turn it is drains",
+pub const ONE_DRAINS: Case = Case {
     script: br#"hx-script 1
 config 5
 listen web
@@ -247,5 +241,3 @@ web/s2 open 1 park 2 take 1 over 0 care 1 close 1
 end
 "#,
 };
-
-pub const CASES: [Case; 6] = [PIPELINED, CHUNKS, HEAD, FIELDS, IN_TURN, ONE_DRAINS];

@@ -3,8 +3,7 @@
 use super::Case;
 
 /// No first request shares under safe.
-const SAFE: Case = Case {
-    name: "no first request shares under safe",
+pub const SAFE: Case = Case {
     script: br#"hx-script 1
 config 4
 listen web
@@ -56,8 +55,7 @@ end
 };
 
 /// A first request takes what served two.
-const AGGRESSIVE: Case = Case {
-    name: "a first request takes what served two",
+pub const AGGRESSIVE: Case = Case {
     script: br#"hx-script 1
 config 4
 listen web
@@ -135,8 +133,7 @@ end
 };
 
 /// Under never nothing rests.
-const NEVER: Case = Case {
-    name: "under never nothing rests",
+pub const NEVER: Case = Case {
     script: br#"hx-script 1
 config 4
 listen web
@@ -184,8 +181,7 @@ end
 };
 
 /// None may rest.
-const NONE_RESTS: Case = Case {
-    name: "none may rest",
+pub const NONE_RESTS: Case = Case {
     script: br#"hx-script 1
 config 4
 listen web
@@ -268,8 +264,7 @@ end
 };
 
 /// One may rest.
-const ONE_RESTS: Case = Case {
-    name: "one may rest",
+pub const ONE_RESTS: Case = Case {
     script: br#"hx-script 1
 config 4
 listen web
@@ -354,8 +349,7 @@ end
 };
 
 /// A round closes one of two.
-const ROUND: Case = Case {
-    name: "a round closes one of two",
+pub const ROUND: Case = Case {
     script: br#"hx-script 1
 config 4
 listen web
@@ -409,8 +403,7 @@ end
 };
 
 /// A drain while an answer is under way.
-const DRAIN: Case = Case {
-    name: "a drain while an answer is under way",
+pub const DRAIN: Case = Case {
     script: br#"hx-script 1
 config 4
 listen web
@@ -475,8 +468,7 @@ end
 };
 
 /// The server ended while its connection rested.
-const ENDED_AT_REST: Case = Case {
-    name: "the server ended while its connection rested",
+pub const ENDED_AT_REST: Case = Case {
     script: br#"hx-script 1
 config 4
 listen web
@@ -528,8 +520,7 @@ end
 };
 
 /// The server spoke while its connection rested.
-const SPOKE_AT_REST: Case = Case {
-    name: "the server spoke while its connection rested",
+pub const SPOKE_AT_REST: Case = Case {
     script: br#"hx-script 1
 config 4
 listen web
@@ -579,15 +570,3 @@ web/s1 open 2 park 2 take 1 over 0 care 1 close 2
 end
 "#,
 };
-
-pub const CASES: [Case; 9] = [
-    SAFE,
-    AGGRESSIVE,
-    NEVER,
-    NONE_RESTS,
-    ONE_RESTS,
-    ROUND,
-    DRAIN,
-    ENDED_AT_REST,
-    SPOKE_AT_REST,
-];

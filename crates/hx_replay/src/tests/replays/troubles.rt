@@ -3,8 +3,7 @@
 use super::Case;
 
 /// The server ends in the middle of an answer.
-const CUT: Case = Case {
-    name: "the server ends in the middle of an answer",
+pub const CUT: Case = Case {
     script: br#"hx-script 1
 config 4
 listen web
@@ -38,8 +37,7 @@ end
 };
 
 /// The server ends without an answer.
-const NO_ANSWER: Case = Case {
-    name: "the server ends without an answer",
+pub const NO_ANSWER: Case = Case {
     script: br#"hx-script 1
 config 4
 listen web
@@ -72,8 +70,7 @@ end
 };
 
 /// The server ends before the second answer.
-const SECOND_CUT: Case = Case {
-    name: "the server ends before the second answer",
+pub const SECOND_CUT: Case = Case {
     script: br#"hx-script 1
 config 4
 listen web
@@ -110,8 +107,7 @@ end
 };
 
 /// A request with two framings.
-const BOTH_LENGTHS: Case = Case {
-    name: "a request with two framings",
+pub const BOTH_LENGTHS: Case = Case {
     script: br#"hx-script 1
 config 4
 listen web
@@ -140,8 +136,7 @@ end
 };
 
 /// A request of an older version.
-const VERSION: Case = Case {
-    name: "a request of an older version",
+pub const VERSION: Case = Case {
     script: br#"hx-script 1
 config 4
 listen web
@@ -170,8 +165,7 @@ end
 };
 
 /// The client's timeout comes in the middle of a head.
-const CLIENT_LATE: Case = Case {
-    name: "the client's timeout comes in the middle of a head",
+pub const CLIENT_LATE: Case = Case {
     script: br#"hx-script 1
 config 5
 listen web
@@ -201,8 +195,7 @@ end
 };
 
 /// The server's timeout comes before an answer.
-const SERVER_LATE: Case = Case {
-    name: "the server's timeout comes before an answer",
+pub const SERVER_LATE: Case = Case {
     script: br#"hx-script 1
 config 5
 listen web
@@ -236,8 +229,7 @@ end
 };
 
 /// No connection is to be had.
-const NO_CONNECTION: Case = Case {
-    name: "no connection is to be had",
+pub const NO_CONNECTION: Case = Case {
     script: br#"hx-script 1
 config 4
 listen web
@@ -264,14 +256,3 @@ web/s1 open 1 park 0 take 0 over 0 care 0 close 1
 end
 "#,
 };
-
-pub const CASES: [Case; 8] = [
-    CUT,
-    NO_ANSWER,
-    SECOND_CUT,
-    BOTH_LENGTHS,
-    VERSION,
-    CLIENT_LATE,
-    SERVER_LATE,
-    NO_CONNECTION,
-];
