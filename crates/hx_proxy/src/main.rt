@@ -1,9 +1,6 @@
 //! The program that listens: it makes the adapters of the machine's sockets, files and clock, and serves with them.
 #![tactic(auto)]
 
-#[cfg(test)]
-mod tests;
-
 use hx_base::ThreadNo;
 use hx_link::{Reading, Writing};
 use hx_proxy_parts::{FileCabinet, MachineClock, SockDoor, SockNet};

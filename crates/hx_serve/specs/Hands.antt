@@ -1,5 +1,5 @@
 -- A worker at work, and what always holds of it.
-use Rattle.std.specs.Prelude.{◌≡◌, ℕ}
+use Rattle.std.specs.Prelude.{◌≡◌}
 use Rattle.hx_config.specs.Meaning.{Meaning}
 use Rattle.hx_link.specs.Nets.{NetState}
 use Rattle.hx_worker.specs.Workers.{WorkerNow, HasSeats}

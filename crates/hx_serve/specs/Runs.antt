@@ -1,11 +1,9 @@
 -- How a run ends, and why.
-use Rattle.std.specs.Prelude.{◌≡◌, ◌⊎◌, ℕ, List, Result, Ok, Err}
-use Rattle.hx_base.specs.Counts.{Rose}
+use Rattle.std.specs.Prelude.{◌≡◌, ℕ, List, Result, Ok, Err}
 use Rattle.hx_base.specs.declared.numbers.NoMemory.{NoMemory}
 use Rattle.hx_link.specs.Told.{SinkState}
 use Rattle.hx_link.specs.Whole.{WritesAll}
 use Rattle.hx_doors.specs.Cabinets.{CabinetState}
-use Rattle.hx_startup.specs.declared.ending.Ending.{Ending}
 use Rattle.hx_startup.specs.declared.ending.Ending.TheVariants as ending
 use Rattle.hx_startup.specs.Options.{TakesWords, NamesFile}
 use Rattle.hx_startup.specs.Files.{HoldsConfig, HoldsFault}

@@ -1,4 +1,4 @@
-use Rattle.std.proofs.Common.{◌≡◌, ap, sym, subst}
+use Rattle.std.proofs.Common.{sym, subst}
 use Rattle.hx_config.specs.Views.{meaning}
 use Rattle.hx_worker.specs.Workers.{HasSeats}
 use Rattle.hx_serve.proofs.Beginning.{begin_seats}

@@ -1,7 +1,4 @@
-use Rattle.std.proofs.Common.{◌≡◌, ◌<◌, ℕ, length, sym, subst, arith, Some}
-use Rattle.std.specs.Prelude.{slice_get}
-use Rattle.hx_base.specs.declared.numbers.ThreadNo.{ThreadNo}
-use Rattle.hx_lockboard.specs.Seats.{SeatView}
+use Rattle.std.proofs.Common.{◌≡◌, ◌<◌, ℕ, length, subst, arith}
 use Rattle.hx_serve.specs.Begins.{BeginsFor}
 use Rattle.hx_serve.proofs.Beginning.{begins_at, popped, left_by_pop}
 use Rattle.hx_serve.proofs.seating.hand_out.Goals as goal

@@ -1,4 +1,4 @@
-use Rattle.std.proofs.Common.{◌≡◌, ◌+◌, List, [], ◌∷◌, map, ap, sym, ◌∙◌, subst, arith, take}
+use Rattle.std.proofs.Common.{◌+◌, List, [], ◌∷◌, map, ap, sym, ◌∙◌, subst, arith, take}
 use Rattle.std.proofs.lemmas.List.{map-append}
 use Rattle.hx_config.specs.Limits.{all_servers}
 use Rattle.hx_lockboard.specs.Seats.{SeatView}

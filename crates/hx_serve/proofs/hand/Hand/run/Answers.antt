@@ -1,8 +1,7 @@
-use Rattle.std.proofs.Common.{◌≡◌, ◌<◌, ℕ, length, subst, sym, ap, ◌∙◌}
+use Rattle.std.proofs.Common.{◌<◌, ℕ, length, subst, sym, ap}
 use Rattle.hx_config.specs.Limits.{all_servers}
 use Rattle.hx_config.specs.Meaning.{Meaning}
 use Rattle.hx_base.specs.declared.numbers.ServerNo.{ServerNo}
-use Rattle.hx_caretaker.specs.Orders.{ordered_server}
 use Rattle.hx_serve.proofs.Beginning.{there_below}
 use Rattle.hx_serve.proofs.hand.Hand.run.Goals as goal
 
