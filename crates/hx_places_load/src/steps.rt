@@ -102,7 +102,7 @@ fn is_admitted(seat: &mut PlaceSeat<'_, Card>) -> bool
 }
 
 /// Claims an own place that is vacant, where the server takes one more.
-fn claim_at(seat: &mut PlaceSeat<'_, Card>, place: PlaceNo) -> Option<Claim>
+pub(crate) fn claim_at(seat: &mut PlaceSeat<'_, Card>, place: PlaceNo) -> Option<Claim>
     requires rest { IsAtRest seat.old }
     requires own { IsOwn seat.old place }
     requires board { IsOfBoard seat.old place }
@@ -148,7 +148,7 @@ fn take_back(seat: &mut PlaceSeat<'_, Card>, place: PlaceNo, face: Face) -> Opti
 
 /// Lets the connection rest at the claimed place after one more use. Where the server drains by now the seat tries to
 /// take it back, and answers the face of what it got.
-fn publish_at(seat: &mut PlaceSeat<'_, Card>, claim: Claim, face: Face) -> Option<Face>
+pub(crate) fn publish_at(seat: &mut PlaceSeat<'_, Card>, claim: Claim, face: Face) -> Option<Face>
     requires filling { IsFilling seat.old claim.place }
     requires has { HasFace seat.old face }
     requires uses { face.uses + 1 < 65536 }

@@ -1,9 +1,10 @@
 //! What no clause says: that the calls succeed, the words of places, and two seats whose calls fall between one another.
-ghost use Rattle.std.specs.Prelude.{◌≡◌, All};
+ghost use Rattle.std.specs.Prelude.{◌≡◌, All, IfOk};
 ghost use Rattle.hx_places_load.specs.Resting.{IsAtRest};
 
 use crate::card::Card;
 use crate::load::run;
+use crate::steps::{claim_at, count_all, open_one, publish_at, set_draining};
 use crate::worker::{Parked, Worker, seats_of};
 use hx_base::{
     ConnId, Face, Millis, Mode, PlaceNo, PlaceState, PoolRules, ServerNo, ThreadNo, pack_place,
@@ -138,6 +139,43 @@ fn two_seats_whose_calls_fall_between_one_another(rt: HostRuntime) -> Result<(),
     assert_eq!(rt; (a.raise(7), b.raise(5)), (0, 7));
     assert_eq!(rt; a.look(place(1, 1)), Some(Found::Resting(face(3, 1))));
     assert_eq!(rt; (a.count(), b.look(place(1, 3))), (1, Some(Found::Empty)));
+    Ok(())
+}
+
+/// Parks what it opens at the first place of its row. The other seat sets the server draining in between. It answers
+/// what the session has then.
+fn park_into_drain(
+    a: &mut PlaceSeat<'_, Card>,
+    b: &mut PlaceSeat<'_, Card>,
+) -> Result<Option<Face>, Fail>
+    requires a { IsAtRest a.old }
+    requires b { IsAtRest b.old }
+    ensures a { IfOk result (λ _. IsAtRest a.new) }
+    ensures b { IfOk result (λ _. IsAtRest b.new) }
+{
+    let at = place(a.thread().0, 0);
+    let Some(opened) = open_one(a) else {
+        return Err(Fail::new("no number"));
+    };
+    if opened.uses != 0 {
+        return Err(Fail::new("a new connection was used"));
+    }
+    let Some(claim) = claim_at(a, at) else {
+        return Err(Fail::new("no vacant place"));
+    };
+    set_draining(b, true);
+    Ok(publish_at(a, claim, opened))
+}
+
+#[test]
+fn a_park_takes_back_what_meets_a_drain(rt: HostRuntime) -> Result<(), Fail> {
+    let mut board = Board::<Card>::new(rt.alloc(), ServerNo(0), RULES, 2, Millis(0))?;
+    let mut seats = seats_of(&mut board, rt.alloc())?;
+    let (Some(mut b), Some(mut a)) = (seats.pop(), seats.pop()) else {
+        return Err(Fail::new("no seat"));
+    };
+    assert_eq!(rt; park_into_drain(&mut a, &mut b)?, Some(face(1, 1)));
+    assert_eq!(rt; count_all(&mut b), 0);
     Ok(())
 }
 
