@@ -102,15 +102,18 @@ module _ (s0 s1 : PlaceView) (c : ℕ) (m : Notes s0 s1 (plain (Count s0.view.th
         subst (λ r. IsUnavailableTo (may s1 first) s1.view.thread looks (place_of r i)) at.3 (p.none at.0 at.1 at.2 i li)
 
     pub sees_none : (q : Option ℕ) → s0.view.terms.rules.low ≤ c → (u : ℕ) × (allows s0.view.terms.rules.mode first u ≡ true) → RefusesTakeover (history_of s0 q) (history_of s2 q) first NoneSeen
-    sees_none q enough some = (some, record {
-      c = c;
-      enough = enough;
-      looks = looks;
-      looked = looked;
-      none = subst (λ (z : ThreadNo × BoardTerms). (row i : ℕ) → row < z.1.threads → row ≢ z.0.0 → i < 64 → IsUnavailableTo (λ u. allows z.1.rules.mode first u) z.0 looks (place_of row i))
-          (λ i. (count_steps.thread i, count_steps.terms i)) (others q);
-      makes = calls_of s0 s2 (counted s0.view.thread c ∷ looks) q all_steps even;
-    })
+    sees_none q enough some = (
+      some,
+      record {
+        c = c;
+        enough = enough;
+        looks = looks;
+        looked = looked;
+        none = subst (λ (z : ThreadNo × BoardTerms). (row i : ℕ) → row < z.1.threads → row ≢ z.0.0 → i < 64 → IsUnavailableTo (λ u. allows z.1.rules.mode first u) z.0 looks (place_of row i))
+            (λ i. (count_steps.thread i, count_steps.terms i)) (others q);
+        makes = calls_of s0 s2 (counted s0.view.thread c ∷ looks) q all_steps even;
+      },
+    )
 
     pub seen_grows : (q : Option ℕ) → Grows (history_of s0 q) (history_of s2 q) []
     seen_grows q = record {

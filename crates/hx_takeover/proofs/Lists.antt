@@ -64,9 +64,9 @@ module _ (mode : Mode) (first : Bool) (t : ThreadNo) (es : List Note) (at : Plac
   two_looks (Resting f) Leaving nx ax ny ay = inl (Leaving, (λ g may e. cc), ay)
   two_looks (Resting f) (Resting g) nx ax ny ay =
       let differ : allows mode first f.uses ≡ true → allows mode first g.uses ≡ true → f ≢ g = λ good also same. ⊎_elim
-          (λ (e : is_safe f.uses ≡ first). nx f (fit_of (allows mode first f.uses) (is_safe f.uses) first good e) refl)
-          (λ (e : is_safe f.uses ≡ not first). ny g (fit_of (allows mode first g.uses) (is_safe g.uses) (not first) also (ap (λ (h : Face). is_safe h.uses) (sym same) ∙ e)) refl)
-          (two_lists (is_safe f.uses) first) in
+      (λ (e : is_safe f.uses ≡ first). nx f (fit_of (allows mode first f.uses) (is_safe f.uses) first good e) refl)
+      (λ (e : is_safe f.uses ≡ not first). ny g (fit_of (allows mode first g.uses) (is_safe g.uses) (not first) also (ap (λ (h : Face). is_safe h.uses) (sym same) ∙ e)) refl)
+      (two_lists (is_safe f.uses) first) in
       ⊎_elim
       (λ (good : allows mode first f.uses ≡ true). ⊎_elim
       (λ (also : allows mode first g.uses ≡ true). inr (f, g, differ good also, ax, ay))
@@ -82,9 +82,13 @@ module _ (mode : Mode) (first : Bool) (t : ThreadNo) (es : List Note) (at : Plac
   -- nothing of the preferred list, where nothing of the other is allowed
   pub one_list : ((u : ℕ) → fits mode first (not first) u ≡ false) → IsUnavailableTo (fits mode first first) t es at → IsUnavailableTo (allows mode first) t es at
   one_list none m = ⊎_elim
-      (λ a. inl (a.0, (λ f good. ⊎_elim
-      (λ (e : is_safe f.uses ≡ first). a.1 f (fit_of (allows mode first f.uses) (is_safe f.uses) first good e))
-      (λ (e : is_safe f.uses ≡ not first). absurd (true_false (fits mode first (not first) f.uses) (fit_of (allows mode first f.uses) (is_safe f.uses) (not first) good e) (none f.uses)))
-      (two_lists (is_safe f.uses) first)), a.2))
+      (λ a. inl (
+        a.0,
+        (λ f good. ⊎_elim
+            (λ (e : is_safe f.uses ≡ first). a.1 f (fit_of (allows mode first f.uses) (is_safe f.uses) first good e))
+            (λ (e : is_safe f.uses ≡ not first). absurd (true_false (fits mode first (not first) f.uses) (fit_of (allows mode first f.uses) (is_safe f.uses) (not first) good e) (none f.uses)))
+            (two_lists (is_safe f.uses) first)),
+        a.2,
+      ))
       (λ d. inr d)
       m

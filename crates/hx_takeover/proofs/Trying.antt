@@ -50,7 +50,7 @@ looked_one s0 s1 place found n = record {
 }
 
 -- the second seat's looks, as looks by the first one's thread
-looked_by : (s0 s1 : PlaceView) (a : ℕ) (ys : List Note) → Looked s0 s1 a → AllLooks s1.view.thread ys → AllLooks s0.view.thread ys
+pub looked_by : (s0 s1 : PlaceView) (a : ℕ) (ys : List Note) → Looked s0 s1 a → AllLooks s1.view.thread ys → AllLooks s0.view.thread ys
 looked_by s0 s1 a ys l k = subst (λ (t : ThreadNo). AllLooks t ys) l.steps.thread k
 
 abbrev pub looked_both : (s0 s1 s2 : PlaceView) (a b : ℕ) → Looked s0 s1 a → Looked s1 s2 b → Looked s0 s2 (a + b)

@@ -86,6 +86,8 @@ pub fn take_over<V: Faced>(
     ensures row { (stays : List Stay) → IsRowOf stays seat.old → IsRowOf stays seat.new }
     ensures rest { IsAtRest seat.new }
 {
-    let Over { v, .. } = find_over(seat, n, first)?;
-    Ok(v)
+    match find_over(seat, n, first) {
+        Ok(over) => Ok(over.v),
+        Err(why) => Err(why),
+    }
 }
