@@ -1,11 +1,10 @@
 -- A Count, the looks behind it, and the take.
-use Rattle.std.proofs.Common.{◌≡◌, ◌≢◌, ◌⊎◌, inl, inr, ⊎_elim, ℕ, ◌+◌, ◌-◌, ◌*◌, ◌%◌, ◌<◌, ◌≤◌, Bool, true, false, List, [], ◌∷◌, ◌++◌, length, refl, sym, ap, ◌∙◌, subst, arith, append_assoc, Option}
+use Rattle.std.proofs.Common.{◌≡◌, ◌≢◌, ⊎_elim, ℕ, ◌+◌, ◌-◌, ◌%◌, ◌<◌, ◌≤◌, Bool, true, false, List, [], ◌∷◌, ◌++◌, refl, sym, ap, ◌∙◌, subst, arith, append_assoc, Option}
 use Rattle.std.proofs.Math.Nat.{mod-eq_of_lt, add-mod_right}
 use Rattle.std.proofs.lemmas.List.{length-append}
 use Rattle.hx_base.specs.declared.numbers.ThreadNo.{ThreadNo}
 use Rattle.hx_base.specs.declared.numbers.SessionNo.{SessionNo}
 use Rattle.hx_base.specs.declared.numbers.PlaceNo.{PlaceNo}
-use Rattle.hx_base.specs.declared.rules.PoolRules.{PoolRules}
 use Rattle.hx_base.specs.Shown.{Shown}
 use Rattle.hx_pool.specs.declared.board.BoardTerms.{BoardTerms}
 use Rattle.hx_pool.specs.declared.entries.Entry.TheVariants.{Count}
@@ -13,10 +12,10 @@ use Rattle.hx_pool.specs.declared.entries.Note.{Note}
 use Rattle.hx_pool.specs.declared.refusals.NoneOver.TheVariants.{NotAllowed, BelowLow, NoneSeen}
 use Rattle.hx_pool.specs.History.{plain, what_of, IsEven}
 use Rattle.hx_pool.specs.Rules.{allows}
-use Rattle.hx_pool.specs.SeatView.{Grows, Makes}
+use Rattle.hx_pool.specs.SeatView.{Grows}
 use Rattle.hx_pool.specs.Causes.{AllLooks, IsUnavailableTo, place_of}
 use Rattle.hx_pool.specs.Taking.{taken, taking}
-use Rattle.hx_pool.specs.Takeover.{counted, TakesOver, SeesNone, OthersUnavailable, AllowsSome, RefusesTakeover}
+use Rattle.hx_pool.specs.Takeover.{counted, TakesOver, OthersUnavailable, RefusesTakeover}
 use Rattle.hx_pool.proofs.Histories.{even-append}
 use Rattle.hx_pool.proofs.Calls.{looks_even, looks_marks, marks_taking}
 use Rattle.hx_pool.proofs.Purges.{le_cases}
@@ -25,11 +24,11 @@ use Rattle.hx_places.specs.Seats.{PlaceView, Stands, Notes, history_of}
 use Rattle.hx_rows.specs.declared.stays.Stay.{Stay}
 use Rattle.hx_rows.specs.Row.{IsRowOf}
 use Rattle.hx_rows.specs.Steps.{Steps, IsAtRest}
-use Rattle.hx_rows.proofs.Resting.{NoParks, no_parks_both}
-use Rattle.hx_rows.proofs.Stepping.{steps_none, steps_both, note_steps, notes_steps, turn_steps, makes_of, calls_of}
+use Rattle.hx_rows.proofs.Resting.{no_parks_both}
+use Rattle.hx_rows.proofs.Stepping.{steps_none, steps_both, notes_steps, turn_steps, makes_of, calls_of}
 use Rattle.hx_rows.proofs.Taking.{row_then}
 use Rattle.hx_rows.proofs.Trying.{looks_no_parks}
-use Rattle.hx_takeover.specs.Scans.{may, row_after, RowsPassed, IsFirstInRow, Looked, Took, PassesRows, TakesInRows}
+use Rattle.hx_takeover.specs.Scans.{may, IsFirstInRow, PassesRows, TakesInRows}
 use Rattle.hx_takeover.specs.Takeover.{TakesInOrder, GrowsBy}
 
 -- another row is that of a step from the thread on

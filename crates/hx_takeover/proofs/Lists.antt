@@ -1,5 +1,5 @@
 -- A place that has nothing for a request, list by list.
-use Rattle.std.proofs.Common.{◌≡◌, ◌≢◌, ◌⊎◌, inl, inr, ⊎_elim, ℕ, Bool, true, false, cond, List, [], ◌∷◌, ◌++◌, refl, sym, ap, ◌∙◌}
+use Rattle.std.proofs.Common.{◌≡◌, ◌≢◌, ◌⊎◌, inl, inr, ⊎_elim, ℕ, Bool, true, false, cond, List, ◌++◌, refl, sym, ap, ◌∙◌}
 use Rattle.std.specs.Prelude.{not, ◌&&◌}
 use Rattle.hx_base.specs.declared.numbers.ThreadNo.{ThreadNo}
 use Rattle.hx_base.specs.declared.numbers.PlaceNo.{PlaceNo}
@@ -10,7 +10,7 @@ use Rattle.hx_pool.specs.declared.entries.Found.TheVariants.{Empty, Resting, Lea
 use Rattle.hx_pool.specs.declared.entries.Entry.TheVariants.{Look}
 use Rattle.hx_pool.specs.declared.entries.Note.{Note}
 use Rattle.hx_pool.specs.Rules.{allows}
-use Rattle.hx_pool.specs.Causes.{Among, AllLooks, IsUnavailableTo}
+use Rattle.hx_pool.specs.Causes.{Among, IsUnavailableTo}
 use Rattle.hx_pool.specs.Taking.{is_safe}
 use Rattle.hx_pool.proofs.Purges.{among_left, among_right}
 use Rattle.hx_resting.specs.Row.{fits}

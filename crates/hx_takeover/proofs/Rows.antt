@@ -1,10 +1,9 @@
 -- Whole rows, list by list and one after another.
-use Rattle.std.proofs.Common.{◌≡◌, ◌≢◌, ◌⊎◌, inl, inr, ⊎_elim, ℕ, ◌+◌, ◌-◌, ◌*◌, ◌%◌, ◌<◌, ◌≤◌, Bool, true, false, List, [], ◌∷◌, ◌++◌, length, refl, sym, ap, ◌∙◌, subst, arith}
+use Rattle.std.proofs.Common.{◌≡◌, ◌≢◌, inl, inr, ⊎_elim, ℕ, ◌+◌, ◌-◌, ◌*◌, ◌<◌, ◌≤◌, Bool, true, false, List, ◌++◌, sym, ap, ◌∙◌, subst, arith}
 use Rattle.std.specs.Prelude.{not, Option, Some, None, MatchOption}
 use Rattle.hx_takeover.specs.declared.scan.Over.{Over}
 use Rattle.std.proofs.lemmas.List.{length-append}
 use Rattle.std.proofs.lemmas.Bool.{cases_eq}
-use Rattle.hx_base.specs.declared.numbers.ThreadNo.{ThreadNo}
 use Rattle.hx_base.specs.declared.numbers.SessionNo.{SessionNo}
 use Rattle.hx_base.specs.declared.numbers.PlaceNo.{PlaceNo}
 use Rattle.hx_base.specs.declared.rules.PoolRules.{PoolRules}
@@ -12,12 +11,12 @@ use Rattle.hx_base.specs.Shown.{Shown}
 use Rattle.hx_pool.specs.declared.board.BoardTerms.{BoardTerms}
 use Rattle.hx_pool.specs.declared.entries.Note.{Note}
 use Rattle.hx_pool.specs.Rules.{allows}
-use Rattle.hx_pool.specs.Causes.{IsUnavailableTo, place_of}
+use Rattle.hx_pool.specs.Causes.{place_of}
 use Rattle.hx_pool.specs.Taking.{is_safe}
 use Rattle.hx_resting.specs.Row.{fits}
 use Rattle.hx_rows.proofs.Choosing.{fit_true}
 use Rattle.hx_places.specs.Seats.{PlaceView, Stands}
-use Rattle.hx_takeover.specs.Scans.{may, may_in, row_after, ListPassed, RowPassed, RowsPassed, IsFirstInRow, Looked, Passes, TakesInList, PassesRow, TakesInRow, PassesRows, TakesInRows}
+use Rattle.hx_takeover.specs.Scans.{may, may_in, row_after, ListPassed, RowPassed, IsFirstInRow, Looked, Passes, TakesInList, PassesRow, TakesInRow, PassesRows, TakesInRows}
 use Rattle.hx_takeover.proofs.Lists.{more_left, more_right, both_lists, one_list}
 use Rattle.hx_takeover.proofs.Trying.{looked_none, looked_both, took_after, back_to}
 

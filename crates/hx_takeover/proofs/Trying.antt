@@ -1,5 +1,5 @@
 -- Looks, and a take behind them.
-use Rattle.std.proofs.Common.{◌≡◌, ◌≢◌, ◌⊎◌, inl, inr, ⊎_elim, ℕ, ◌+◌, ◌*◌, ◌<◌, ◌≤◌, Bool, true, false, List, [], ◌∷◌, ◌++◌, length, refl, sym, ap, ◌∙◌, subst, arith, append_assoc, Some}
+use Rattle.std.proofs.Common.{◌≡◌, ◌≢◌, inl, inr, ⊎_elim, ℕ, ◌+◌, ◌*◌, ◌<◌, Bool, true, false, List, [], ◌∷◌, ◌++◌, refl, sym, ap, ◌∙◌, subst, arith, append_assoc}
 use Rattle.std.proofs.lemmas.List.{length-append}
 use Rattle.std.proofs.lemmas.Bool.{cases_eq}
 use Rattle.hx_base.specs.declared.numbers.ThreadNo.{ThreadNo}
@@ -24,15 +24,15 @@ use Rattle.hx_pool.proofs.Histories.{EachStep-second}
 use Rattle.hx_resting.specs.Row.{fits}
 use Rattle.hx_places.specs.declared.view.View.{View}
 use Rattle.hx_places.specs.declared.view.Hand.TheVariants.{Idle}
-use Rattle.hx_places.specs.Turns.{Turn, Settled, AtEase, first_turn}
+use Rattle.hx_places.specs.Turns.{Turn}
 use Rattle.hx_places.specs.Asks.{CanTake, IsInTurn, MayTry}
 use Rattle.hx_places.specs.Seats.{PlaceView, turn, Stands, Notes, TakesAt}
 use Rattle.hx_places.proofs.Laws.{holds_face}
 use Rattle.hx_rows.specs.Steps.{Steps, IsAtRest}
 use Rattle.hx_rows.proofs.Resting.{table_more}
 use Rattle.hx_rows.proofs.Stepping.{steps_none, steps_both, note_steps, notes_steps, takes_steps, turn_steps, looks_rest}
-use Rattle.hx_takeover.specs.Scans.{may_in, ListPassed, Looked, Took, Misses, Takes, Passes, TakesInList}
-use Rattle.hx_takeover.proofs.Lists.{same_face, unfit_face, bool_cases, more_left, more_right}
+use Rattle.hx_takeover.specs.Scans.{may_in, Looked, Took, Misses, Takes, Passes, TakesInList}
+use Rattle.hx_takeover.proofs.Lists.{same_face, unfit_face, more_left, more_right}
 
 pub looks_both : (t : ThreadNo) (xs ys : List Note) → AllLooks t xs → AllLooks t ys → AllLooks t (xs ++ ys)
 looks_both t [] ys a b = b

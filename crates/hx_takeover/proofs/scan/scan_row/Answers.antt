@@ -1,4 +1,3 @@
-use Rattle.std.proofs.Common.{◌≡◌, sym, ap, ◌∙◌}
 use Rattle.hx_takeover.proofs.Rows.{row_first, row_one_by, row_end}
 use Rattle.hx_takeover.proofs.scan.scan_row.Goals as goal
 

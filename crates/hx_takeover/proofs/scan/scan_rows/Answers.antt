@@ -1,4 +1,4 @@
-use Rattle.std.proofs.Common.{◌≡◌, ℕ, ◌%◌, ◌+◌, ◌<◌, sym, ap, ◌∙◌, subst, arith}
+use Rattle.std.proofs.Common.{◌≡◌, ℕ, ◌%◌, ◌+◌, ◌<◌, subst, arith}
 use Rattle.hx_takeover.specs.Scans.{row_after, PassesRow, PassesRows, TakesInRow}
 use Rattle.hx_takeover.proofs.Rows.{rows_none, rows_more, rows_takes}
 use Rattle.hx_takeover.proofs.scan.scan_rows.Goals as goal

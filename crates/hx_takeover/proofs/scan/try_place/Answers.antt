@@ -1,4 +1,4 @@
-use Rattle.std.proofs.Common.{◌≡◌, sym, ap, ◌∙◌}
+use Rattle.std.proofs.Common.{sym, ap, ◌∙◌}
 use Rattle.hx_pool.specs.declared.entries.Found.TheVariants.{Resting}
 use Rattle.hx_places.specs.Turns.{Turn}
 use Rattle.hx_rows.proofs.Taking.{taken_due, took_turn}

@@ -1,7 +1,6 @@
 use Rattle.std.proofs.Common.{◌≡◌, ℕ, ◌≤◌, ◌<◌, sym, ap, ◌∙◌, subst}
 use Rattle.hx_base.specs.declared.rules.PoolRules.{PoolRules}
-use Rattle.hx_places.specs.Seats.{Stands}
-use Rattle.hx_takeover.proofs.Counting.{count_rest, count_row, low_grows, sees_none, seen_grows, seen_row, takes_over, takes_in_order, grows_by, took_row}
+use Rattle.hx_takeover.proofs.Counting.{count_rest, count_row, sees_none, seen_grows, seen_row, takes_over, takes_in_order, grows_by, took_row}
 use Rattle.hx_takeover.proofs.takeover.find_over.Goals as goal
 
 pub returns-then-is_below-clause-row : goal.returns-then-is_below-clause-row
