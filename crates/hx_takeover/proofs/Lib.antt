@@ -1,0 +1,4 @@
+pub mod Lists
+pub mod Trying
+pub mod Rows
+pub mod Counting
