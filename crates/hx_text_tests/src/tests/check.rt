@@ -370,23 +370,6 @@ fn parks_past_the_limit_break_the_third_rule(rt: HostRuntime) -> Result<(), Fail
     show(&rt, rt.alloc(), 3, &[(none, 4), (one, 6)])
 }
 
-/// A transcript with these records breaks the rule first at that line.
-fn show_records(
-    rt: &impl Abort,
-    alloc: Global,
-    rule: u8,
-    name: &'static str,
-    records: [Told; 2],
-    line: u32,
-) -> Result<(), Fail> {
-    let case = Case {
-        name,
-        records: &records,
-        ..REPLAYED
-    };
-    show(rt, alloc, rule, &[(case, line)])
-}
-
 #[test]
 fn records_that_are_not_true_break_the_fourth_rule(rt: HostRuntime) -> Result<(), Fail> {
     let given = Case {
@@ -413,26 +396,22 @@ fn records_that_are_not_true_break_the_fourth_rule(rt: HostRuntime) -> Result<()
         ask: Span { from: 28, to: 29 },
         ..LEAVING
     });
-    let alloc = rt.alloc();
-    show(&rt, alloc, 4, &[(given, 9)])?;
-    show_records(&rt, alloc, 4, "the request isn't whole", [asked, LEAVE], 9)?;
-    show_records(&rt, alloc, 4, "a range past the bytes", [past, LEAVE], 9)?;
-    show_records(
-        &rt,
-        alloc,
-        4,
-        "a status without an own answer",
-        [own, LEAVE],
-        9,
-    )?;
-    show_records(
-        &rt,
-        alloc,
-        4,
-        "a left line past the bytes",
-        [PASS, left],
-        10,
-    )
+    show(&rt, rt.alloc(), 4, &[(given, 9)])?;
+    let cases = [
+        ("the request isn't whole", [asked, LEAVE], 9),
+        ("a range past the bytes", [past, LEAVE], 9),
+        ("a status without an own answer", [own, LEAVE], 9),
+        ("a left line past the bytes", [PASS, left], 10),
+    ];
+    for (name, records, line) in cases {
+        let case = Case {
+            name,
+            records: &records,
+            ..REPLAYED
+        };
+        show(&rt, rt.alloc(), 4, &[(case, line)])?;
+    }
+    Ok(())
 }
 
 #[test]
@@ -445,31 +424,20 @@ fn ranges_that_do_not_follow_break_the_fifth_rule(rt: HostRuntime) -> Result<(),
         kind: Kind::Passed(Carried { nth: 2, ..CARRY }),
         ..EXCHANGE
     });
-    let alloc = rt.alloc();
-    show_records(
-        &rt,
-        alloc,
-        5,
-        "a record behind the left line",
-        [LEAVE, PASS],
-        9,
-    )?;
-    show_records(
-        &rt,
-        alloc,
-        5,
-        "the last range begins too early",
-        [PASS, again],
-        10,
-    )?;
-    show_records(
-        &rt,
-        alloc,
-        5,
-        "the first exchange is missing",
-        [second, LEAVE],
-        14,
-    )
+    let cases = [
+        ("a record behind the left line", [LEAVE, PASS], 9),
+        ("the last range begins too early", [PASS, again], 10),
+        ("the first exchange is missing", [second, LEAVE], 14),
+    ];
+    for (name, records, line) in cases {
+        let case = Case {
+            name,
+            records: &records,
+            ..REPLAYED
+        };
+        show(&rt, rt.alloc(), 5, &[(case, line)])?;
+    }
+    Ok(())
 }
 
 #[test]
