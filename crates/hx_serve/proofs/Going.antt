@@ -67,7 +67,7 @@ pub steps_there : (w w' : WorkerNow) (net net' : NetState) (n : SessionNo) (r : 
 steps_there w w' net net' n r s on =
     subst (λ (l : List SessionNow). IsSome (session_of l n.0)) (sym s.sessions)
     (still w.sessions s.after n.0
-    (ap (λ (k : SessionNo). k.0) s.step.same.number ∙ found_number w.sessions n.0 s.session s.there)
+    (ap (λ (k : SessionNo). k.0) s.step.same.session.number ∙ found_number w.sessions n.0 s.session s.there)
     (not_over s.after.over (λ over. on (s.step.ended.1 over))) s.session s.there)
 
 -- the next session is there
