@@ -22,14 +22,16 @@ use Rattle.hx_pool.specs.declared.entries.Entry.TheVariants.{Open, Take, Close, 
 use Rattle.hx_pool.specs.declared.entries.Note.{Note}
 use Rattle.hx_pool.specs.declared.refusals.NoneOver.{NoneOver}
 use Rattle.hx_pool.specs.declared.refusals.NoneOver.TheVariants.{NotAllowed, BelowLow, NoneSeen}
-use Rattle.hx_pool.specs.History.{plain, marks_of, what_of}
-use Rattle.hx_pool.specs.SeatView.{About, History, Calls}
+use Rattle.hx_pool.specs.History.{plain, marks_of, own_of, what_of}
+use Rattle.hx_pool.specs.SeatView.{About, History, Calls, Makes}
 use Rattle.hx_pool.specs.Causes.{AllLooks}
 use Rattle.hx_pool.specs.Opening.{Opens, Closes}
 use Rattle.hx_pool.specs.Taking.{Takes, TakesNoneOwn, taking}
 use Rattle.hx_pool.specs.Takeover.{RefusesTakeover, counted}
 use Rattle.hx_pool.proofs.Calls.{makes_both, looks_marks}
-use Rattle.hx_pool.proofs.Histories.{marks_of-append}
+use Rattle.hx_pool.proofs.Histories.{marks_of-append, own_of-append}
+use Rattle.hx_pool.proofs.Holding.{gained}
+use Rattle.std.proofs.lemmas.List.{append_cancel_left}
 use Rattle.hx_connecting.specs.declared.connecting.Connected.{Connected}
 use Rattle.hx_connecting.specs.declared.connecting.Connected.TheVariants.{Begun, Dead, Refused}
 use Rattle.hx_connecting.specs.Connecting.{FindsOne, FindsNone, TriesRested, TriesNew, Connects}
@@ -130,12 +132,23 @@ none_seat old new n first f = ⊎_elim
     (λ b. seat_after old b.0 new n [] (looks_seat old b.0 n first b.2) (refused_seat b.0 new n first b.1 b.3))
     f
 
+-- behind a part of the history that has all of before the call, this thread made entries of the call alone
+own_behind : (old new : History) (es more H later : List Note) → Makes old new es → H ≡ old.seen ++ more → new.seen ≡ H ++ later → (front : List Note) × (es ≡ front ++ own_of new.about.thread later)
+own_behind old new es more H later m is seen =
+    let t = old.about.thread in
+    let cut : m.seen.0 ≡ more ++ later =
+    append_cancel_left old.seen m.seen.0 (more ++ later) (sym m.seen.1 ∙ (seen ∙ (ap (λ (l : List Note). l ++ later) is ∙ append_assoc old.seen more later))) in
+    let own : es ≡ own_of t more ++ own_of t later = sym (gained old new es m) ∙ (ap (own_of t) cut ∙ own_of-append t more later) in
+    (own_of t more, own ∙ ap (λ (a : About). own_of t more ++ own_of a.thread later) (sym m.about))
+
 -- where a connection was taken, and what stood beside its last Park
 pub record TookAt (old new : History) (n : SessionNo) (first : Bool) (v : Shown) : Type 0 where
   pub place : PlaceNo
   pub seat : SeatMarks old new n (Take old.about.thread n first place v.face.id v.face.uses ∷ [])
   pub H : List Note
   pub later : List Note
+  pub more : List Note
+  pub behind : H ≡ old.seen ++ more
   pub seen : new.seen ≡ H ++ later
   pub what : what_of H v.face.id.0 ≡ Some v.what
   pub server : v.server ≡ old.about.server
@@ -147,6 +160,8 @@ one_seat old new n first v f = ⊎_elim
       seat = takes_seat old new [] n first a.place v a.takes a.passed (marked_none n);
       H = old.seen ++ a.takes.between;
       later = _;
+      more = a.takes.between;
+      behind = refl;
       seen = a.takes.seen;
       what = a.takes.what;
       server = a.takes.server;
@@ -158,6 +173,8 @@ one_seat old new n first v f = ⊎_elim
           (takes_seat b.0 new (counted b.0.about.thread k.c ∷ []) n first k.place v k.takes k.passed (marked_count n b.0.about.thread k.c)));
       H = b.0.seen ++ k.takes.between;
       later = _;
+      more = x.makes.makes.seen.0 ++ k.takes.between;
+      behind = ap (λ (l : List Note). l ++ k.takes.between) x.makes.makes.seen.1 ∙ append_assoc old.seen x.makes.makes.seen.0 k.takes.between;
       seen = k.takes.seen;
       what = k.takes.what;
       server = k.takes.server ∙ ap (λ (h : About). h.server) x.makes.makes.about;
@@ -186,12 +203,24 @@ rested_touch old mid new n first server r now m net net' (Begun busy fresh) here
       at_server = refl;
       seat = subst (λ (h : History). SeatMarks old h n (Take old.about.thread n first at.place r.id r.uses ∷ [])) (sym k.0) at.seat;
       comes = (ids, refl);
-      goes = λ s s' es none has. (
+      goes = λ s s' es makes none has. let own = own_behind old new es at.more at.H at.later makes at.behind (ap (λ (h : History). h.seen) k.0 ∙ at.seen) in (
         record {
           before = Some (what_of_link r.link);
           after = Some (what_of_link busy.link);
           gone = None;
-          was = (none, (at.H, at.later, what_of_link r.link, ap (λ (h : History). h.seen) k.0 ∙ at.seen, at.what, refl));
+          was = (
+            none,
+            (
+              at.H,
+              at.later,
+              what_of_link r.link,
+              ap (λ (h : History). h.seen) k.0 ∙ at.seen,
+              at.what,
+              refl,
+              own.0,
+              own.1,
+            ),
+          );
           is = (refl, (Exchanging busy, (has, srv, sym ids), refl));
           same = begun_same r k.2.0 now busy net.loop_no k.2.1 loops;
           dials = attach_dials net net' k.2.2.0.0;
@@ -205,12 +234,14 @@ rested_touch old mid new n first server r now m net net' Dead here rested f k =
     let at = one_seat old mid n first (shown r) f in
     let buried = k.3.buries in
     let dies = dies_so r now k.1 net k.0 rested k.2 in
+    let seen : new.seen ≡ at.H ++ (at.later ++ k.3.closes.makes.seen.0) =
+    k.3.closes.makes.seen.1 ∙ (ap (λ (l : List Note). l ++ k.3.closes.makes.seen.0) at.seen ∙ append_assoc at.H at.later k.3.closes.makes.seen.0) in
     record {
       touch = Some (record { server = server; id = r.id; came = Took at.place r.uses; went = Ends });
       at_server = refl;
       seat = seat_then old mid new n (Take old.about.thread n first at.place r.id r.uses ∷ []) (λ t. Close t n r.id) at.seat (closes_seat mid new n r.id k.3.closes);
       comes = refl;
-      goes = λ s s' es none has. (
+      goes = λ s s' es makes none has. let own = own_behind old new es at.more at.H (at.later ++ k.3.closes.makes.seen.0) makes at.behind seen in (
         record {
           before = Some (what_of_link r.link);
           after = Some (what_of_link k.1);
@@ -221,9 +252,11 @@ rested_touch old mid new n first server r now m net net' Dead here rested f k =
               at.H,
               at.later ++ k.3.closes.makes.seen.0,
               what_of_link r.link,
-              k.3.closes.makes.seen.1 ∙ (ap (λ (l : List Note). l ++ k.3.closes.makes.seen.0) at.seen ∙ append_assoc at.H at.later k.3.closes.makes.seen.0),
+              seen,
               at.what,
               refl,
+              own.0,
+              own.1,
             ),
           );
           is = (has, (subst (λ (q : ServerNo). TellsDial q r.id k.1) (at.server ∙ here) dies.dial, refl));
@@ -257,7 +290,7 @@ new_touch old mid new n first server m net net' (Begun busy fresh) f k =
       at_server = refl;
       seat = opened_seat old mid new n first o.id f o.opens;
       comes = (ids, refl);
-      goes = λ s s' es none has. (
+      goes = λ s s' es makes none has. (
         record {
           before = None;
           after = Some (what_of_link busy.link);
@@ -295,7 +328,7 @@ new_touch old mid new n first server m net net' Refused f k = ⊎_elim
       at_server = tt;
       seat = seat_after old mid new n [] (none_seat old mid n first f) (nothing_seat mid new n e.1.1);
       comes = tt;
-      goes = λ s s' es none has. record {
+      goes = λ s s' es makes none has. record {
         conn = has ∙ sym none;
         course = subst (λ (q : NetState). CourseStays net q) (sym same) (course_stays net.course);
         dials = gains_eq net.dials net'.dials (ap (λ (q : NetState). q.dials) same);
@@ -308,7 +341,7 @@ new_touch old mid new n first server m net net' Refused f k = ⊎_elim
       at_server = refl;
       seat = failed_seat old mid near new n first id f z.2 x.0;
       comes = (refl, refl);
-      goes = λ s s' es none has. (
+      goes = λ s s' es makes none has. (
         record {
           before = None;
           after = None;
@@ -337,7 +370,7 @@ new_touch old mid new n first server m net net' Refused f k = ⊎_elim
       at_server = refl;
       seat = failed_seat old mid near new n first id f z.2 y.6.closes;
       comes = (refl, refl);
-      goes = λ s s' es none has. (
+      goes = λ s s' es makes none has. (
         record {
           before = None;
           after = Some (what_of_link link);

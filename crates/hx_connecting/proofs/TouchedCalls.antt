@@ -7,7 +7,7 @@ use Rattle.hx_base.specs.declared.numbers.ServerNo.{ServerNo}
 use Rattle.hx_base.specs.declared.numbers.ConnId.{ConnId}
 use Rattle.hx_base.specs.declared.numbers.PlaceNo.{PlaceNo}
 use Rattle.hx_base.specs.declared.what.What.{What}
-use Rattle.hx_link.specs.Told.{LinkState}
+use Rattle.hx_link.specs.Told.{LinkState, IsCounted}
 use Rattle.hx_link.specs.Nets.{NetState, NetDetaches, NetBuries, TellsDial}
 use Rattle.hx_conn.specs.Conns.{RestedNow, BusyNow, IsRested, IsBusy}
 use Rattle.hx_conn.specs.Steps.{rested_of}
@@ -151,8 +151,8 @@ parks_fit s x b None ends was = tt
 parks_fit s x b (Some r) ends was = record { ends = ends s x was; told = refl }
 
 -- it stays with the session
-pub kept_stays : (b : BusyNow) (served : Option Served) → IsPassed served → EndsFor b served → ConnStays (Exchanging b) (Resting (rested_of b)) served
-kept_stays b served passed ends = record { server = refl; id = refl; link = rested_same b; goes = (refl, passed); fits = stays_fit b served ends }
+pub kept_stays : (b : BusyNow) (served : Option Served) → IsPassed served → EndsFor b served → IsCounted b.link → ConnStays (Exchanging b) (Resting (rested_of b)) served
+kept_stays b served passed ends counted = record { server = refl; id = refl; link = rested_same b; goes = (refl, passed, record { taken = counted.taken; sent = counted.sent }); fits = stays_fit b served ends }
 
 -- it is parked
 pub parked_way : (t : ThreadNo) (n : SessionNo) (b : BusyNow) (z : Outcome) (h : History) (es : List Note) (old new : NetState) (place : PlaceNo) (served : Option Served) → IsPassed served → EndsFor b served → NetStays old new

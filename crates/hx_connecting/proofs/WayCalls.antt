@@ -8,7 +8,7 @@ use Rattle.hx_base.specs.declared.numbers.ServerNo.{ServerNo}
 use Rattle.hx_base.specs.declared.numbers.ConnId.{ConnId}
 use Rattle.hx_base.specs.Shown.{Shown}
 use Rattle.hx_message.specs.declared.MethodKind.{MethodKind}
-use Rattle.hx_link.specs.Told.{LinkState}
+use Rattle.hx_link.specs.Told.{LinkState, IsCounted}
 use Rattle.hx_link.specs.Nets.{NetState, OnlyFaults, TellsDial}
 use Rattle.hx_conn.specs.Conns.{RestedNow, BusyNow, IsRested, IsBusy}
 use Rattle.hx_conn.specs.Steps.{rested_of, refusal, ProbesOk, BeginsOk}
@@ -16,7 +16,7 @@ use Rattle.hx_conn.specs.WhatTold.{shown, what_of_link}
 use Rattle.hx_pool.specs.declared.entries.Entry.{Entry}
 use Rattle.hx_pool.specs.declared.entries.Entry.TheVariants.{Park}
 use Rattle.hx_pool.specs.declared.entries.Note.{Note}
-use Rattle.hx_pool.specs.SeatView.{About, History}
+use Rattle.hx_pool.specs.SeatView.{About, History, Makes}
 use Rattle.hx_pool.specs.History.{marks_of}
 use Rattle.hx_base.specs.declared.rules.Mode.TheVariants.{Never}
 use Rattle.hx_conn.specs.declared.causes.RestCause.{RestCause}
@@ -122,14 +122,14 @@ set_same (o ∷ olds) (suc j) h there = ap (λ (l : List History). o ∷ l) (set
 
 -- a connection whose exchange passed settles
 settled_way : (t : ThreadNo) (n : SessionNo) (first : Bool) (b : BusyNow) (z : Outcome) (olds news : List History) (old new : History) (net mid net' : NetState) (q : Option RestedNow) (served : Option Served)
-    → HasAround t n (Some (Exchanging b)) olds → slice_get olds b.server.0 ≡ Some old → news ≡ slice_set olds b.server.0 new → OnlyFaults net mid → IsPassed served → EndsFor b served
+    → HasAround t n (Some (Exchanging b)) olds → slice_get olds b.server.0 ≡ Some old → news ≡ slice_set olds b.server.0 new → OnlyFaults net mid → IsPassed served → EndsFor b served → IsCounted b.link
     → SettlesAs old new n (rested_of b) mid net' q → RestWay t n first (Some (Exchanging b)) z olds news net net' q served
-settled_way t n first b z olds news old new net mid net' (Some p) served a there is faults passed ends k =
+settled_way t n first b z olds news old new net mid net' (Some p) served a there is faults passed ends counted k =
     let same : news ≡ olds = is ∙ (ap (λ (h : History). slice_set olds b.server.0 h) k.2 ∙ set_same olds b.server.0 old there) in
     let kept : StaysWith (Some (Exchanging b)) (Some (Resting p)) served = (
       Resting p,
       refl,
-      subst (λ (r : RestedNow). ConnStays (Exchanging b) (Resting r) served) (sym k.1) (kept_stays b served passed ends),
+      subst (λ (r : RestedNow). ConnStays (Exchanging b) (Resting r) served) (sym k.1) (kept_stays b served passed ends counted),
     ) in
     record {
       touch = None;
@@ -137,7 +137,7 @@ settled_way t n first b z olds news old new net mid net' (Some p) served a there
       at = record { added = nothing olds; adds = subst (λ (hs : List History). AddsFor t n first None olds hs (nothing olds)) (sym same) (adds_no_touch t n first olds (holds_stand t n (Some (Exchanging b)) 0 olds a.holds)) };
       way = (kept, net_then net mid net' (net_faults net mid faults) (net_is mid net' k.3));
     }
-settled_way t n first b z olds news old new net mid net' None served a there is faults passed ends k =
+settled_way t n first b z olds news old new net mid net' None served a there is faults passed ends counted k =
     let r = rested_of b in
     let c : Option Holding = Some (Exchanging b) in
     let thread = (holds_here t n c 0 b.server.0 olds old there a.holds).0 in
@@ -169,10 +169,10 @@ settled_way t n first b z olds news old new net mid net' None served a there is 
 
 -- a connection whose exchange passed
 pub rests_way : (t : ThreadNo) (n : SessionNo) (first : Bool) (z : Outcome) (olds news : List History) (b : BusyNow) (net net' : NetState) (q : Option RestedNow) (served : Option Served) → HasAround t n (Some (Exchanging b)) olds
-    → IsPassed served → (refusal b ≡ None → EndsFor b served) → ((why : RestCause) → refusal b ≡ Some why → CauseAt n b z net net' served) → RestsAs olds news n b net net' q
+    → IsPassed served → (refusal b ≡ None → EndsFor b served) → IsCounted b.link → ((why : RestCause) → refusal b ≡ Some why → CauseAt n b z net net' served) → RestsAs olds news n b net net' q
     → RestWay t n first (Some (Exchanging b)) z olds news net net' q served
-rests_way t n first z olds news b net net' q served a passed ends causes k = ⊎_elim
-    (λ s. settled_way t n first b z olds news s.3.old s.3.new net s.0 net' q served a s.3.was s.3.seats s.1 passed (ends s.2) s.3.settles)
+rests_way t n first z olds news b net net' q served a passed ends counted causes k = ⊎_elim
+    (λ s. settled_way t n first b z olds news s.3.old s.3.new net s.0 net' q served a s.3.was s.3.seats s.1 passed (ends s.2) counted s.3.settles)
     (λ s.
     let w = busy_some t n first b z olds news net net' served a s.4 (causes s.0 s.1) s.3 in
     record { touch = w.touch; may = inr s.2; at = w.at; way = subst (λ (o : Option RestedNow). WayFor t n (Some (Exchanging b)) (resting o) z news w.at.added net net' w.touch served) (sym s.2) w.way })
@@ -230,14 +230,14 @@ none_after server Refused k = refl
 connect_way : {X : Type 0} (t : ThreadNo) (n : SessionNo) (first : Bool) (z : Outcome) (server : ServerNo) (olds news : List History) (old new : History) (now : ℕ) (m : MethodKind) (net net' : NetState) (d : Connected X) → HasAround t n None olds
     → slice_get olds server.0 ≡ Some old → news ≡ slice_set olds server.0 new → Connects old new n first server now m net net' d → (touch : Option Touch) → IfSome touch (λ x. x.server ≡ server)
     → (s : SeatMarks old new n (marks_for old.about.thread n first touch)) → ComesTo server d touch
-    → ((s s' : SessionNow) (es : List Note) → s.conn ≡ None → s'.conn ≡ conn_after d → GoesFor s s' new es net net' touch) → SomeWay t n first None (conn_after d) z olds news net net' None
+    → ((s s' : SessionNow) (es : List Note) → Makes old new es → s.conn ≡ None → s'.conn ≡ conn_after d → GoesFor s s' new es net net' touch) → SomeWay t n first None (conn_after d) z olds news net net' None
 connect_way t n first z server olds news old new now m net net' d a there is k None at s comes goes =
     let all = holds_stand t n None 0 olds a.holds in
     let es : List (List Note) = slice_set (nothing olds) server.0 s.added in
     let one : SeatAdds old new n first [] s.added = record { makes = s.makes; marked = s.marked; wanted = connects_wanted old new n first server now m net net' d k s.added s.makes.makes } in
     let none = none_after server d comes in
     let here : SessionNow = admitted t n 0 0 no_link in
-    let stays = goes here here [] refl (sym none) in
+    let stays = goes here here s.added s.makes.makes refl (sym none) in
     record {
       touch = None;
       at = record {
@@ -260,7 +260,7 @@ connect_way t n first z server olds news old new now m net net' d a there is k (
             (adds_touch t n first x olds old new s.added all here (holds_here t n None 0 x.server.0 olds old here a.holds).0 one);
       };
       way = way_at t n None (conn_after d) z x olds news old new s.added net net' None here set (connects_faults old new n first server now m net net' d k)
-          (λ s1 s2 was is2 by named. let y = goes s1 s2 s.added was is2 in (y.0, y.1 None, tt, y.2 n z None));
+          (λ s1 s2 was is2 by named. let y = goes s1 s2 s.added s.makes.makes was is2 in (y.0, y.1 None, tt, y.2 n z None));
     }
 
 -- an exchange begins on a connection that the session had, or that is dead

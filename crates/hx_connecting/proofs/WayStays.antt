@@ -1,5 +1,5 @@
 -- A connection that stays with its session, from call to call.
-use Rattle.std.proofs.Common.{◌≡◌, ℕ, ◌+◌, List, [], ◌++◌, refl, sym, ap, subst, ◌∙◌, inl, inr, Option, Some, None, ⊎_elim}
+use Rattle.std.proofs.Common.{◌≡◌, ℕ, ◌+◌, List, [], ◌++◌, refl, sym, ap, subst, ◌∙◌, inl, inr, append_assoc, Option, Some, None, ⊎_elim}
 use Rattle.std.specs.Prelude.{IfSome}
 use Rattle.std.proofs.lemmas.List.Elements.{Contains-append_right}
 use Rattle.hx_base.specs.Spans.{bytes_in}
@@ -19,7 +19,7 @@ use Rattle.hx_record.specs.declared.served.Carried.{Carried}
 use Rattle.hx_record.specs.declared.served.Kind.{Kind}
 use Rattle.hx_record.specs.declared.served.Kind.TheVariants as kind
 use Rattle.hx_record.specs.declared.served.Served.{Served}
-use Rattle.hx_pool.specs.History.{marks_of}
+use Rattle.hx_pool.specs.History.{marks_of, own_of}
 use Rattle.hx_pool.specs.Wants.{ClosesForCause}
 use Rattle.std.proofs.lemmas.List.{append-nil}
 use Rattle.hx_connecting.specs.Closings.{ClosesFor, call_of}
@@ -90,11 +90,11 @@ same_ends s s2 x x2 w a b (kind.Own status) was was2 went same e = ⊎_elim (λ 
 pub stays_self : (c : Option Holding) (served : Option Served) → GivesOwn served c → StaysWith c c served
 stays_self None None own = (refl, tt)
 stays_self None (Some r) own = (refl, own.0)
-stays_self (Some (Resting r)) None own = (Resting r, refl, record { server = refl; id = refl; link = same_self r.link; goes = refl; fits = tt })
+stays_self (Some (Resting r)) None own = (Resting r, refl, record { server = refl; id = refl; link = same_self r.link; goes = (refl, refl, refl); fits = tt })
 stays_self (Some (Resting r)) (Some x) own = (
   Resting r,
   refl,
-  record { server = refl; id = refl; link = same_self r.link; goes = refl; fits = λ s was. record { ends = own_ends s (stays_of (Resting r)) (Some (what_of_link r.link)) r x.kind was own.0; told = refl } },
+  record { server = refl; id = refl; link = same_self r.link; goes = (refl, refl, refl); fits = λ s was. record { ends = own_ends s (stays_of (Resting r)) (Some (what_of_link r.link)) r x.kind was own.0; told = refl } },
 )
 stays_self (Some (Exchanging b)) None own = (Exchanging b, refl, record { server = refl; id = refl; link = same_self b.link; goes = exchange_self b; fits = tt })
 stays_self (Some (Exchanging b)) (Some x) own = absurd own.1
@@ -123,7 +123,7 @@ on_then (Some (Exchanging a)) k d x y =
 
 had_then : (a b : BusyNow) (k : Holding) (served : Option Served) → IsSameExchange a b → HadGoes (Exchanging b) k served → HadGoes (Exchanging a) k served
 had_then a b (Exchanging c) served x y = exchange_then a b c x y
-had_then a b (Resting r) served x y = (y.0 ∙ ap (λ (u : ℕ). u + 1) x.begins.uses_are, y.1)
+had_then a b (Resting r) served x y = (y.0 ∙ ap (λ (u : ℕ). u + 1) x.begins.uses_are, y.1, y.2)
 
 fits_then : (a b : BusyNow) (k : Holding) (served : Option Served) → IsSameExchange a b → IfSome served (λ r. ToldStays a b)
     → IfSome served (λ r. (s : SessionNow) → s.conn ≡ Some (Exchanging b) → FitsRecord s (stays_of (Exchanging b)) (Some (what_of_link b.link)) (Some (what_of_link (conn_link k))) r)
@@ -171,22 +171,22 @@ goes_behind : (a b : What) (o : Option What) → IsSameLink a b → GoesOn (Some
 goes_behind a b None x y = y
 goes_behind a b (Some c) x y = same_then a b c x y
 
-pub record WasHad (s : SessionNow) (h : History) (x : Touch) (came : Came) (a b : BusyNow) (w : Option What) : Type 0 where
-  pub was : TellsBefore s h x came (Some (what_of_link a.link))
+pub record WasHad (s : SessionNow) (h : History) (es : List Note) (x : Touch) (came : Came) (a b : BusyNow) (w : Option What) : Type 0 where
+  pub was : TellsBefore s h es x came (Some (what_of_link a.link))
   pub told : w ≡ Some (what_of_link b.link)
   pub had : came ≡ Had
 
-had_behind : (s s2 : SessionNow) (h : History) (x : Touch) (came : Came) (a b : BusyNow) (w : Option What) → s.conn ≡ Some (Exchanging a) → s2.conn ≡ Some (Exchanging b) → ExchangeStays a b
-    → TellsBefore s2 h x came w → WasHad s h x came a b w
-had_behind s s2 h x Had a b w was was2 e t =
+had_behind : (s s2 : SessionNow) (h : History) (es : List Note) (x : Touch) (came : Came) (a b : BusyNow) (w : Option What) → s.conn ≡ Some (Exchanging a) → s2.conn ≡ Some (Exchanging b) → ExchangeStays a b
+    → TellsBefore s2 h es x came w → WasHad s h es x came a b w
+had_behind s s2 h es x Had a b w was was2 e t =
     let same : t.0 ≡ Exchanging b = some_same t.0 (Exchanging b) (sym t.1.0 ∙ was2) in
     record {
       was = (Exchanging a, (was, sym e.server ∙ (sym (ap conn_server same) ∙ t.1.1), sym e.id ∙ (sym (ap conn_id same) ∙ t.1.2)), refl);
       told = t.2 ∙ ap (λ (c : Holding). Some (what_of_link (conn_link c))) same;
       had = refl;
     }
-had_behind s s2 h x Opened a b w was was2 e t = absurd (not_none s2 (Exchanging b) was2 t.0)
-had_behind s s2 h x (Took place uses) a b w was was2 e t = absurd (not_none s2 (Exchanging b) was2 t.0)
+had_behind s s2 h es x Opened a b w was was2 e t = absurd (not_none s2 (Exchanging b) was2 t.0)
+had_behind s s2 h es x (Took place uses) a b w was was2 e t = absurd (not_none s2 (Exchanging b) was2 t.0)
 
 came_behind : (came : Came) (c d : Option Holding) (a b : BusyNow) (w v : Option What) (new : Holding) (served : Option Served) → came ≡ Had → c ≡ Some (Exchanging a) → d ≡ Some (Exchanging b) → IsSameExchange a b
     → CameGoes came d w new served → CameGoes came c v new served
@@ -215,7 +215,7 @@ way_behind t n a b c' o h es old new x served e told way = λ s s' was is by nam
     let s2 : SessionNow = record s { conn = Some (Exchanging b) } in
     let z = way s2 s' refl is by named in
     let g = z.0 in
-    let had = had_behind s s2 h x x.came a b g.before was refl e g.was in (
+    let had = had_behind s s2 h es x x.came a b g.before was refl e g.was in (
       record {
         before = Some (what_of_link a.link);
         after = g.after;
@@ -247,6 +247,14 @@ tells_wider s xs es x (Rests place uses) l w y = (y.0, y.1, (y.2.0, y.2.1, Conta
 tells_wider s xs es x Ends l w y = y
 tells_wider s xs es x (EndsTakenBack place uses) l w y = y
 
+before_wider : (s : SessionNow) (h : History) (xs es : List Note) (x : Touch) (came : Came) (w : Option What) → TellsBefore s h es x came w → TellsBefore s h (xs ++ es) x came w
+before_wider s h xs es x Had w y = y
+before_wider s h xs es x Opened w y = y
+before_wider s h xs es x (Took place uses) w y =
+    let z = y.1 in
+    let own = own_of h.about.thread z.1 in
+    (y.0, (z.0, z.1, z.2, z.3, z.4, z.5, xs ++ z.6, ap (λ (l : List Note). xs ++ l) z.7 ∙ sym (append_assoc xs z.6 own)))
+
 pub way_wider : (t : ThreadNo) (n : SessionNo) (c c' : Option Holding) (o : Outcome) (h : History) (xs es : List Note) (old new : NetState) (x : Touch) (served : Option Served) → CloseNone (marks_of xs)
     → WayOf t n c c' o h es old new x served → WayOf t n c c' o h (xs ++ es) old new x served
 way_wider t n c c' o h xs es old new x served none way = λ s s' was is by named.
@@ -256,7 +264,7 @@ way_wider t n c c' o h xs es old new x served none way = λ s s' was is by named
         before = g.before;
         after = g.after;
         gone = g.gone;
-        was = g.was;
+        was = before_wider s h xs es x x.came g.before g.was;
         is = tells_wider s' xs es x x.went g.gone g.after g.is;
         same = g.same;
         dials = g.dials;

@@ -3,6 +3,7 @@ use Rattle.std.specs.Prelude.{◌≡◌, ◌⊎◌, ℕ, ◌+◌, List, length, 
 use Rattle.hx_base.specs.Spans.{bytes_in}
 use Rattle.hx_base.specs.declared.what.What.{What}
 use Rattle.hx_conn.specs.Conns.{RestedNow, BusyNow}
+use Rattle.hx_link.specs.Told.{IsCounted}
 use Rattle.hx_message.specs.Message.{Persists}
 use Rattle.hx_record.specs.declared.served.Carried.{Carried}
 use Rattle.hx_record.specs.declared.served.Kind.{Kind}
@@ -22,16 +23,18 @@ pub record IsSameExchange (a b : BusyNow) : Type 0 where
   pub begins : BeginsAt b a.uses a.exchange.sent_from a.exchange.taken_from
   pub method : b.exchange.method ≡ a.exchange.method
 
--- a passed exchange rests with its session (mode never)
+-- a passed exchange rests with its session (mode never), and its link tells as many bytes as it counts
 abbrev pub RestsAfter : BusyNow → RestedNow → Option Served → Type 0
-RestsAfter b r served = (r.uses ≡ b.uses + 1) × ((x : Served) × (c : Carried) × (served ≡ Some x) × (x.kind ≡ kind.Passed c))
+RestsAfter b r served =
+    (r.uses ≡ b.uses + 1) × ((x : Served) × (c : Carried) × (served ≡ Some x) × (x.kind ≡ kind.Passed c)) × IsCounted r.link
 
--- from what the session had to what it has
+-- from what the session had to what it has; over a connection that rests no byte is moved
 abbrev pub HadGoes : Holding → Holding → Option Served → Type 0
 HadGoes (Exchanging a) (Exchanging b) served = IsSameExchange a b
 HadGoes (Exchanging a) (Resting r) served = RestsAfter a r served
 HadGoes (Resting r) (Exchanging b) served = BeginsAt b r.uses r.link.sent_count r.link.taken_count
-HadGoes (Resting q) (Resting r) served = r.uses ≡ q.uses
+HadGoes (Resting q) (Resting r) served =
+    (r.uses ≡ q.uses) × (r.link.sent_count ≡ q.link.sent_count) × (r.link.taken_count ≡ q.link.taken_count)
 
 -- from a connection that the call took, by what it told at rest
 abbrev pub TookGoes : Option What → ℕ → Holding → Type 0

@@ -11,7 +11,7 @@ use Rattle.hx_link.specs.Told.{LinkState}
 use Rattle.hx_link.specs.Nets.{NetState, told_dial, TellsDial}
 use Rattle.hx_pool.specs.declared.entries.Entry.TheVariants.{Park}
 use Rattle.hx_pool.specs.declared.entries.Note.{Note}
-use Rattle.hx_pool.specs.History.{what_of}
+use Rattle.hx_pool.specs.History.{own_of, what_of}
 use Rattle.hx_pool.specs.SeatView.{History}
 use Rattle.hx_connecting.specs.Sessions.{Holding, conn_link, conn_server, conn_id, SessionNow, IsSomeAnd}
 use Rattle.hx_connecting.specs.Touches.{Came, Went, Touch}
@@ -22,13 +22,15 @@ use Rattle.hx_connecting.specs.Touches.{Stays, Rests, Ends, EndsTakenBack}
 abbrev pub HasIt : SessionNow → Touch → Holding → Type 0
 HasIt s x c = (s.conn ≡ Some c) × (conn_server c ≡ x.server) × (conn_id c ≡ x.id)
 
--- what its link told before the call: nothing of a connection that the call opened
-abbrev pub TellsBefore : SessionNow → History → Touch → Came → Option What → Type 0
-TellsBefore s h x Had w = (c : Holding) × HasIt s x c × (w ≡ Some (what_of_link (conn_link c)))
-TellsBefore s h x Opened w = (s.conn ≡ None) × (w ≡ None)
-TellsBefore s h x (Took place uses) w =
+-- what its link told before the call: nothing of a connection that the call opened; of one that it took, what stood beside its last
+-- Park in a part of the history behind which this thread made entries of the call alone
+abbrev pub TellsBefore : SessionNow → History → List Note → Touch → Came → Option What → Type 0
+TellsBefore s h es x Had w = (c : Holding) × HasIt s x c × (w ≡ Some (what_of_link (conn_link c)))
+TellsBefore s h es x Opened w = (s.conn ≡ None) × (w ≡ None)
+TellsBefore s h es x (Took place uses) w =
     (s.conn ≡ None)
-    × ((H : List Note) × (later : List Note) × (v : What) × (h.seen ≡ H ++ later) × (what_of H x.id.0 ≡ Some v) × (w ≡ Some v))
+    × ((H : List Note) × (later : List Note) × (v : What) × (h.seen ≡ H ++ later) × (what_of H x.id.0 ≡ Some v) × (w ≡ Some v)
+    × (front : List Note) × (es ≡ front ++ own_of h.about.thread later))
 
 -- the link was buried, of that connection where it tells its dial
 abbrev pub IsBuried : Touch → Option LinkState → Option What → Type 0
@@ -107,7 +109,7 @@ pub record LinkGoes (s s' : SessionNow) (h : History) (es : List Note) (old new 
   pub before : Option What
   pub after : Option What
   pub gone : Option LinkState
-  pub was : TellsBefore s h x x.came before
+  pub was : TellsBefore s h es x x.came before
   pub is : TellsAfter s' es x x.went gone after
   pub same : GoesOn before after
   pub dials : DialsFor x x.came old new after

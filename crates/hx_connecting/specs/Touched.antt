@@ -6,7 +6,7 @@ use Rattle.hx_base.specs.declared.numbers.ThreadNo.{ThreadNo}
 use Rattle.hx_pool.specs.declared.entries.Entry.{Entry}
 use Rattle.hx_pool.specs.declared.entries.Note.{Note}
 use Rattle.hx_pool.specs.History.{marks_of}
-use Rattle.hx_pool.specs.SeatView.{History, Calls, StandsInOneHistory}
+use Rattle.hx_pool.specs.SeatView.{History, Calls, Makes, StandsInOneHistory}
 use Rattle.hx_connecting.specs.declared.connecting.Connected.{Connected}
 use Rattle.hx_connecting.specs.declared.connecting.Connected.TheVariants.{Begun, Dead, Refused}
 use Rattle.hx_base.specs.declared.numbers.ConnId.{ConnId}
@@ -66,7 +66,7 @@ pub record ConnectTouches {X : Type 0} (old new : History) (n : SessionNo) (firs
   pub at_server : IfSome touch (λ x. x.server ≡ server)
   pub seat : SeatMarks old new n (marks_for old.about.thread n first touch)
   pub comes : ComesTo server c touch
-  pub goes : (s s' : SessionNow) (es : List Note) → s.conn ≡ None → s'.conn ≡ conn_after c → GoesFor s s' new es net_old net_new touch
+  pub goes : (s s' : SessionNow) (es : List Note) → Makes old new es → s.conn ≡ None → s'.conn ≡ conn_after c → GoesFor s s' new es net_old net_new touch
 
 -- each seat stands in one history
 abbrev pub AllStand : List History → Type 0

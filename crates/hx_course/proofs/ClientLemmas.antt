@@ -21,7 +21,7 @@ use Rattle.hx_worker.specs.Steps.{placed}
 use Rattle.hx_worker.specs.Workers.{session_of, NumbersRise}
 use Rattle.hx_course.specs.Clients.{CoversOf, IsTiled, IsGone, KeepsClients}
 use Rattle.hx_course.specs.Graves.{OfClient, OfConn, Grave, grave, conn_graves, client_graves}
-use Rattle.hx_course.specs.Lines.{served_line, left_line, lines_of, AreApart, TellsRising}
+use Rattle.hx_course.specs.Lines.{served_line, left_line, lines_of, AreApart}
 use Rattle.hx_course.proofs.TableLemmas.{none_in, one_in}
 use Rattle.hx_course.proofs.LineLemmas.{lines_apart, covers_on, tiled_on, served_covers, left_tiles}
 use Rattle.hx_record.proofs.Following.{covers_none}
@@ -59,16 +59,16 @@ goes_on a None served on e = append-nil (served_line served)
 goes_on a (Some l) served on e = let over = e.over in cc
 
 -- and one that is over gave one
-over_tiles : (a : SessionNow) (left : Option Left) (served : Option Served) (records : List Told) → a.over ≡ true → Leaves a left → IfSome left (λ l. l.ask.from ≤ l.ask.to)
+over_tiles : (a : SessionNow) (left : Option Left) (served : Option Served) (records : List Told) → a.over ≡ true → Leaves a left
     → CoversOf a (records ++ served_line served) → IsTiled a.worker a.number (records ++ lines_of served left) a.client
-over_tiles a None served records over e rises c = cc
-over_tiles a (Some l) served records over e rises c =
+over_tiles a None served records over e c = cc
+over_tiles a (Some l) served records over e c =
     subst (λ (rs : List Told). IsTiled a.worker a.number rs a.client) (append_assoc records (served_line served) (left_line (Some l)))
-    (left_tiles a l (records ++ served_line served) e rises c)
+    (left_tiles a l (records ++ served_line served) e c)
 
 module _ (t : ThreadNo) (last : ℕ) (ss : List SessionNow) (s a : SessionNow) (conn : Option What) (served : Option Served) (left : Option Left) (records : List Told) (graves : List Grave)
     (closed : List Grave) (no_client : (u : ThreadNo) (n : SessionNo) (l : LinkState) → Contains closed (grave (OfClient u n) l) → ⊥) (rise : NumbersRise 0 ss last) (its : s.worker ≡ t) (there : session_of ss s.number.0 ≡ Some s)
-    (worker : a.worker ≡ s.worker) (number : a.number ≡ s.number) (told : RecordsTold s a conn left served) (leaves : Leaves a left) (rises : TellsRising served left)
+    (worker : a.worker ≡ s.worker) (number : a.number ≡ s.number) (told : RecordsTold s a conn left served) (leaves : Leaves a left)
     (keeps : KeepsClients t last ss records graves) where
   abbrev no : ℕ
   no = a.number.0
@@ -87,7 +87,7 @@ module _ (t : ThreadNo) (last : ℕ) (ss : List SessionNow) (s a : SessionNow) (
       (subst (λ (m : SessionNo). IfSome left (λ l. l.session ≡ m)) number (session_left a left leaves))
 
   covered : CoversOf a (records ++ served_line served)
-  covered = served_covers s a conn left served records worker number told rises.record_rises (keeps.there s.number.0 s there)
+  covered = served_covers s a conn left served records worker number told (keeps.there s.number.0 s there)
 
   same : session_of (placed ss a) no ≡ if_going a
   same = placed_same 0 last ss s a rise here
@@ -118,7 +118,7 @@ module _ (t : ThreadNo) (last : ℕ) (ss : List SessionNow) (s a : SessionNow) (
     thread = worker ∙ its;
     given = low;
     gone = same ∙ ap (λ (b : Bool). if b then None else Some a) over;
-    tiled = over_tiles a left served records over leaves rises.left_rises covered;
+    tiled = over_tiles a left served records over leaves covered;
   }
 
   buried_after : (u : ThreadNo) (n : SessionNo) (l : LinkState) → Contains (graves ++ (closed ++ client_graves a.over a)) (grave (OfClient u n) l)

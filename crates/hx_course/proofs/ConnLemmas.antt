@@ -45,9 +45,9 @@ use Rattle.hx_pool.proofs.Holding.{has_with}
 use Rattle.hx_pool.proofs.Owning.{just_has}
 use Rattle.hx_worker.specs.Workers.{Each, OwnsAll, held_of, session_of, NumbersRise}
 use Rattle.hx_course.specs.Calls.{AreAlone, TookLast, TouchGoes}
-use Rattle.hx_course.specs.Conns.{CoversHeld, HeldTells, CoversSome, IsOver, KeepsConns, ConnGoesOn}
+use Rattle.hx_course.specs.Conns.{CoversHeld, HeldTells, CoversSome, IsOver, KeepsConns}
 use Rattle.hx_course.specs.Graves.{Grave, OfConn, grave}
-use Rattle.hx_course.specs.Lines.{lines_of, Rises, RisesThere, ExchangeRises}
+use Rattle.hx_course.specs.Lines.{lines_of}
 use Rattle.hx_course.specs.Places.{IsAtRest}
 use Rattle.hx_course.proofs.ConnLines.{conn_as, lines_none, lines_one, carried_here, carried_past, own_none, told_parts, is_some, some_is_there}
 use Rattle.hx_course.proofs.GoingLemmas.{adds_old, adds_new, conn_is, server_is, goes_from, had_before, from_zero, marks_here, marks_past, touch_spares}
@@ -68,6 +68,11 @@ its_kind s a conn why r (kind.Own status) t = tt
 pub its_record : (s a : SessionNow) (conn : Option What) (left : Option Left) (served : Option Served) → RecordsTold s a conn left served → IfSome served (λ r. ItsKind s r.kind)
 its_record s a conn left None t = tt
 its_record s a conn left (Some r) t = its_kind s a conn (Rattle.hx_session.specs.Records.leaves_for left) r r.kind t.kind
+
+-- with a record no exchange is under way any more
+pub its_over : (s a : SessionNow) (conn : Option What) (left : Option Left) (served : Option Served) → RecordsTold s a conn left served → IfSome served (λ r. HasNoExchange a.conn)
+its_over s a conn left None t = tt
+its_over s a conn left (Some r) t = t.over
 
 -- of the record of an exchange, that exchange
 abbrev IsThe : Kind → Carried → Type 0
@@ -168,7 +173,7 @@ module _ (ss : List SessionNow) (last : ℕ) (s a : SessionNow) (seats seats' : 
     (own : x ≡ None → IfSome served (λ r. IsOwn r.kind)) (none : x ≡ None → NoLinkGoes s a net net') (some : (y : Touch) → x ≡ Some y → TouchGoes s a seats seats' added net net' y)
     (exch : (y : Touch) (e : x ≡ Some y) → ExchangeGoes s a y y.went (some y e).goes.before served)
     (passed : (y : Touch) (e : x ≡ Some y) → IfSome served (λ r. PassedEnds s y (some y e).goes.after r.kind))
-    (goes : ConnGoesOn s a served) (rising : IfSome served Rises)
+    (over : IfSome served (λ r. HasNoExchange a.conn))
     (new_grave : (server : ServerNo) (id : ConnId) (l : LinkState) → Contains graves' (grave (OfConn server id) l)
     → Contains graves (grave (OfConn server id) l) ⊎ ((y : Touch) × (e : x ≡ Some y) × (server ≡ y.server) × (id ≡ y.id) × ((some y e).goes.gone ≡ Some l)))
     (held_at : (m : SessionNow) (c : Holding) → session_of ss m.number.0 ≡ Some m → m.conn ≡ Some c → (h : History) → slice_get seats (conn_server c).0 ≡ Some h
@@ -300,21 +305,15 @@ module _ (ss : List SessionNow) (last : ℕ) (s a : SessionNow) (seats seats' : 
 
     -- with the session's exchange b
     had_is : (c : Holding) → s.conn ≡ Some c → (conn_server c ≡ y.server) × (conn_id c ≡ y.id) × (k.goes.before ≡ Some (what_of_link (conn_link c)))
-    had_is c is = had_before s k.history y y.came k.goes.before c is k.goes.was
+    had_is c is = had_before s k.history k.es y y.came k.goes.before c is k.goes.was
 
     -- a record of it stands right behind what was covered
     record_on : (b : BusyNow) → s.conn ≡ Some (Exchanging b) → (r : Served) → served ≡ Some r → (c : Carried) → IsThe r.kind c → IsOfExchange b c
         → CoversConn b.server b.id records b.exchange.sent_from b.exchange.taken_from b.uses → CoversConn b.server b.id records' c.sent.to c.took.to (b.uses + 1)
     record_on b is r q c the o v =
-        let rises : ExchangeRises r.kind = (subst (λ (z : Option Served). IfSome z Rises) q rising).exchange in
-        let there : RisesThere c = rises_the r.kind the rises in
         subst (λ (z : Option Served). CoversConn b.server b.id (records ++ lines_of z left) c.sent.to c.took.to (b.uses + 1)) (sym q)
         (lines_one b.server b.id records r c left b.exchange.sent_from b.exchange.taken_from b.uses (carried_the r.kind c b.server b.id the o.server o.id)
-        (record { number = o.nth; sends = (o.sent, there.sent); takes = (o.took, there.took) }) v)
-      where
-        rises_the : (z : Kind) → IsThe z c → ExchangeRises z → RisesThere c
-        rises_the z (inl w) h = subst (λ (q : Kind). ExchangeRises q) w h
-        rises_the z (inr (why, w)) h = subst (λ (q : Kind). ExchangeRises q) w h
+        (record { number = o.nth; sends = (o.sent, o.sent_rises); takes = (o.took, o.took_rises) }) v)
 
     -- how a passed exchange ends on a connection that isn't closed
     passed_ends : (r : Served) → served ≡ Some r → (c : Carried) → r.kind ≡ kind.Passed c → (IsClosed y.went → ⊥) → (b : BusyNow) → s.conn ≡ Some (Exchanging b) → (w : What) → k.goes.after ≡ Some w
@@ -347,7 +346,7 @@ module _ (ss : List SessionNow) (last : ℕ) (s a : SessionNow) (seats seats' : 
     had_stays (Exchanging b) (Exchanging d) is now h to num after tells open_ =
         let had = had_is (Exchanging b) is in
         let old = had_covers (Exchanging b) is (told_before (what_of_link b.link) (what_of_link d.link) had.2 after tells) in
-        let owns = own_with served (Exchanging d) d refl (λ r q f. subst (λ (o : Option Holding). HasNoExchange o) now (goes.over r q f)) in
+        let owns = own_with served (Exchanging d) d refl (λ r q f. subst (λ (o : Option Holding). HasNoExchange o) now (subst (λ (o : Option Served). IfSome o (λ v. HasNoExchange a.conn)) q over)) in
         conn_as b.server d.server b.id d.id records' b.exchange.sent_from d.exchange.sent_from b.exchange.taken_from d.exchange.taken_from b.uses d.uses
         (had.0 ∙ sym to) (had.1 ∙ sym num) (sym h.begins.sent_from) (sym h.begins.taken_from) (sym h.begins.uses_are)
         (own_on b.server b.id owns b.exchange.sent_from b.exchange.taken_from b.uses old)
@@ -359,7 +358,7 @@ module _ (ss : List SessionNow) (last : ℕ) (s a : SessionNow) (seats seats' : 
         let l = is_some (what_of_link r.link).told tells in
         let ends = passed_ends v h.1.2 c h.1.3 open_ b is (what_of_link r.link) after l.0 l.1 in
         let parts = told_parts r.link.sent r.link.taken r.link.told_end l.0 l.1 in
-        let counted = goes.counted r now in
+        let counted = h.2 in
         let sent : length l.0.sent ≡ r.link.sent_count = subst (λ (o : Option (List ℕ)). IfSome o (λ z. length z ≡ r.link.sent_count)) parts.0 counted.sent in
         let took : length l.0.taken ≡ r.link.taken_count = subst (λ (o : Option (List ℕ)). IfSome o (λ z. length z ≡ r.link.taken_count)) parts.1 counted.taken in
         conn_as b.server r.server b.id r.id records' c.sent.to r.link.sent_count c.took.to r.link.taken_count (b.uses + 1) r.uses
@@ -376,16 +375,15 @@ module _ (ss : List SessionNow) (last : ℕ) (s a : SessionNow) (seats seats' : 
         let had = had_is (Resting q) is in
         let old = had_covers (Resting q) is (told_before (what_of_link q.link) (what_of_link r.link) had.2 after tells) in
         let owns = own_without s served its (λ b f. let no_ = sym is ∙ f in cc) in
-        let still = goes.still q r is now in
         conn_as q.server r.server q.id r.id records' q.link.sent_count r.link.sent_count q.link.taken_count r.link.taken_count q.uses r.uses
-        (had.0 ∙ sym to) (had.1 ∙ sym num) (sym still.0) (sym still.1) (sym h)
+        (had.0 ∙ sym to) (had.1 ∙ sym num) (sym h.1) (sym h.2) (sym h.0)
         (own_on q.server q.id owns q.link.sent_count q.link.taken_count q.uses old)
 
     -- the session had none before
     had_none : (came : Came) → y.came ≡ came → (came ≡ Had → ⊥) → s.conn ≡ None
     had_none came c other = by_came y.came refl k.goes.was
       where
-        by_came : (z : Came) → y.came ≡ z → TellsBefore s k.history y z k.goes.before → s.conn ≡ None
+        by_came : (z : Came) → y.came ≡ z → TellsBefore s k.history k.es y z k.goes.before → s.conn ≡ None
         by_came Had f w = absurd (other (sym c ∙ f))
         by_came Opened f w = w.0
         by_came (Took place uses) f w = w.0
@@ -477,7 +475,7 @@ module _ (ss : List SessionNow) (last : ℕ) (s a : SessionNow) (seats seats' : 
         some_as q.server y.server q.id y.id had.0 had.1
         (record { sent = q.link.sent_count; took = q.link.taken_count; count = q.uses; covers = own_on q.server q.id owns q.link.sent_count q.link.taken_count q.uses (had_covers (Resting q) is tells) })
 
-    came_closed : (came : Came) → y.came ≡ came → TellsBefore s k.history y came k.goes.before → (w : What) → k.goes.after ≡ Some w → IsSome w.told → CoversSome y.server y.id records'
+    came_closed : (came : Came) → y.came ≡ came → TellsBefore s k.history k.es y came k.goes.before → (w : What) → k.goes.after ≡ Some w → IsSome w.told → CoversSome y.server y.id records'
     came_closed Had c b w after tells = had_closed b.0 b.1.0 (told_before (what_of_link (conn_link b.0)) w b.2 after tells)
     came_closed Opened c b w after tells = record { sent = 0; took = 0; count = 0; covers = own_on y.server y.id (no_exchange b.0) 0 0 0 (opened_covers c) }
     came_closed (Took place uses) c b w after tells =
@@ -525,7 +523,7 @@ module _ (ss : List SessionNow) (last : ℕ) (s a : SessionNow) (seats seats' : 
     -- ---- it rests
 
     -- behind a call that leaves it with its session or closed it doesn't rest
-    came_held : (came : Came) → y.came ≡ came → y.went ≡ Stays → TellsBefore s k.history y came k.goes.before → ((table_after k.history.seen).conns y.id.0 ≡ HeldBy g.about.thread s.number) ⊎ ((table_after k.history.seen).conns y.id.0 ≡ HeldBy t n)
+    came_held : (came : Came) → y.came ≡ came → y.went ≡ Stays → TellsBefore s k.history k.es y came k.goes.before → ((table_after k.history.seen).conns y.id.0 ≡ HeldBy g.about.thread s.number) ⊎ ((table_after k.history.seen).conns y.id.0 ≡ HeldBy t n)
     came_held Had c w b =
         let stays = spared y.id.0 T k.es (subst (AllSpare y.id.0) (sym (marks_by Had Stays c w)) tt) in
         let held : T.conns y.id.0 ≡ HeldBy g.about.thread s.number =

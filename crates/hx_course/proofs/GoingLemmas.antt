@@ -131,13 +131,13 @@ pub goes_from : (o w : Option What) (v : What) → o ≡ Some v → GoesOn o w �
 goes_from o w v e g = goes_some v w (subst (λ (p : Option What). GoesOn p w) e g)
 
 -- a session that had a connection touched that one
-pub had_before : (s : SessionNow) (h : History) (y : Touch) (came : Came) (w : Option What) (c : Holding) → s.conn ≡ Some c → TellsBefore s h y came w
+pub had_before : (s : SessionNow) (h : History) (es : List Note) (y : Touch) (came : Came) (w : Option What) (c : Holding) → s.conn ≡ Some c → TellsBefore s h es y came w
     → (conn_server c ≡ y.server) × (conn_id c ≡ y.id) × (w ≡ Some (what_of_link (conn_link c)))
-had_before s h y Had w c e t =
+had_before s h es y Had w c e t =
     let same : t.0 ≡ c = some_is t.0 c (sym t.1.0 ∙ e) in
     (ap conn_server (sym same) ∙ t.1.1, ap conn_id (sym same) ∙ t.1.2, t.2 ∙ ap (λ (k : Holding). Some (what_of_link (conn_link k))) same)
-had_before s h y Opened w c e t = let no = sym e ∙ t.0 in cc
-had_before s h y (Took place uses) w c e t = let no = sym e ∙ t.0 in cc
+had_before s h es y Opened w c e t = let no = sym e ∙ t.0 in cc
+had_before s h es y (Took place uses) w c e t = let no = sym e ∙ t.0 in cc
 
 own_line : (t u : ThreadNo) (n m : SessionNo) → t ≡ u → n ≡ m → is_of t n u m ≡ true
 own_line t u n m e f =
@@ -296,7 +296,7 @@ module _ (ss : List SessionNow) (last : ℕ) (s a : SessionNow) (seats seats' : 
     held_by_it c e to num tells None is = (v, inl (held_now c ((none is).conn ∙ e) v tells server id to num), told_same v.told)
     held_by_it c e to num tells (Some y) is =
         let k = (some y is).0 in
-        let b = had_before s k.history y y.came k.goes.before c e k.goes.was in
+        let b = had_before s k.history k.es y y.came k.goes.before c e k.goes.was in
         let r = touched_on y k is (some y is).1 v (b.2 ∙ ap Some (sym tells)) in
         other_goal y (sym b.0 ∙ to) (sym b.1 ∙ num) (r.0, r.1, r.2)
 
@@ -405,7 +405,7 @@ module _ (ss : List SessionNow) (last : ℕ) (s a : SessionNow) (seats seats' : 
         by_touch (Some y) e =
             let k = (some y e).0 in
             let closes = (some y e).1 in
-            let b = had_before s k.history y y.came k.goes.before (Exchanging its.0) its.1 k.goes.was in
+            let b = had_before s k.history k.es y y.came k.goes.before (Exchanging its.0) its.1 k.goes.was in
             let t = touched_on y k e closes (what_of_link its.0.link) b.2 in
             let server : y.server ≡ c.server = sym b.0 ∙ sym its.2.server in
             let id : y.id ≡ c.id = sym b.1 ∙ sym its.2.id in record {

@@ -1,5 +1,5 @@
 -- Lines of other sessions leave what a session's records cover, and a session's own record carries it on.
-use Rattle.std.proofs.Common.{◌≡◌, ℕ, ◌+◌, ◌≤◌, Bool, true, false, List, [], ◌∷◌, ◌++◌, refl, sym, ap, ◌∙◌, subst, append_assoc, append-nil, Option, Some, None, ne_eqb}
+use Rattle.std.proofs.Common.{◌≡◌, ℕ, ◌+◌, Bool, true, false, List, [], ◌∷◌, ◌++◌, refl, sym, ap, ◌∙◌, subst, append_assoc, append-nil, Option, Some, None, ne_eqb}
 use Rattle.std.specs.Prelude.{◌&&◌, ◌==◌, IfSome}
 use Rattle.hx_base.specs.declared.numbers.SessionNo.{SessionNo}
 use Rattle.hx_base.specs.declared.numbers.ThreadNo.{ThreadNo}
@@ -17,7 +17,7 @@ use Rattle.hx_connecting.specs.Sessions.{SessionNow}
 use Rattle.hx_session.specs.Records.{LeftStands}
 use Rattle.hx_session.specs.Telling.{RecordsTold}
 use Rattle.hx_course.specs.Clients.{CoversOf, IsTiled}
-use Rattle.hx_course.specs.Lines.{served_line, left_line, lines_of, AreApart, Rises}
+use Rattle.hx_course.specs.Lines.{served_line, left_line, lines_of, AreApart}
 
 and_false : (a b : Bool) → b ≡ false → (a && b) ≡ false
 and_false true b e = e
@@ -75,20 +75,20 @@ covers_as t u n m records a b g h k j e1 e2 e3 e4 e5 c =
 
 -- its record, where it gives one, carries on what is covered
 pub served_covers : (s a : SessionNow) (conn : Option What) (left : Option Left) (served : Option Served) (records : List Told) → a.worker ≡ s.worker → a.number ≡ s.number
-    → RecordsTold s a conn left served → IfSome served Rises → CoversOf s records → CoversOf a (records ++ served_line served)
-served_covers s a conn left None records w n told rises c =
+    → RecordsTold s a conn left served → CoversOf s records → CoversOf a (records ++ served_line served)
+served_covers s a conn left None records w n told c =
     subst (λ (rs : List Told). CoversOf a rs) (sym (append-nil records))
     (covers_as s.worker a.worker s.number a.number records s.asked a.asked s.gave a.gave s.served a.served (sym w) (sym n) (sym told.asked) (sym told.given) (sym told.served) c)
-served_covers s a conn left (Some r) records w n told rises c =
+served_covers s a conn left (Some r) records w n told c =
     let more : CoversClient r.worker r.session (records ++ line.Served r ∷ []) r.ask.to r.gave.to (s.served + 1) = client_follows records r s.asked s.gave s.served
     (covers_as s.worker r.worker s.number r.session records s.asked s.asked s.gave s.gave s.served s.served (sym told.worker) (sym told.session) refl refl refl c)
-    (record { ask = (told.ask, rises.ask); given = (told.gave, rises.gave); number = told.number }) in
+    (record { ask = (told.ask, told.ask_rises); given = (told.gave, told.gave_rises); number = told.number }) in
     covers_as r.worker a.worker r.session a.number (records ++ line.Served r ∷ []) r.ask.to a.asked r.gave.to a.gave (s.served + 1) a.served
     (told.worker ∙ sym w) (told.session ∙ sym n) (sym told.asked) (sym told.given) (sym told.served) more
 
 -- its Left ends it
-pub left_tiles : (a : SessionNow) (l : Left) (records : List Told) → LeftStands a l → l.ask.from ≤ l.ask.to → CoversOf a records → IsTiled a.worker a.number (records ++ line.Left l ∷ []) a.client
-left_tiles a l records stands rises c = λ b is.
+pub left_tiles : (a : SessionNow) (l : Left) (records : List Told) → LeftStands a l → CoversOf a records → IsTiled a.worker a.number (records ++ line.Left l ∷ []) a.client
+left_tiles a l records stands c = λ b is.
     client_ends records b l a.asked a.gave a.served (stands.worker ∙ sym is.worker) (stands.session ∙ sym is.session)
     (covers_as a.worker b.worker a.number b.session records a.asked a.asked a.gave a.gave a.served a.served (sym is.worker) (sym is.session) refl refl refl c)
-    (record { from = stands.from; rises = rises; to = stands.to ∙ sym is.took; all_given = stands.gave ∙ sym is.gave })
+    (record { from = stands.from; rises = stands.rises; to = stands.to ∙ sym is.took; all_given = stands.gave ∙ sym is.gave })

@@ -1,9 +1,10 @@
 -- A worker's step keeps what holds of a course.
 use Rattle.std.proofs.Common.{◌≡◌, ◌⊎◌, ⊎_elim, inl, inr, ℕ, zero, suc, ◌+◌, Bool, true, false, List, [], ◌∷◌, ◌++◌, refl, sym, ap, ◌∙◌, subst, Option, Some, None, arith}
-use Rattle.std.specs.Prelude.{IfSome, Contains, option_map}
+use Rattle.std.specs.Prelude.{IfSome, Contains, option_map, ⊤}
 use Rattle.std.proofs.lemmas.List.Elements.{Contains-append_cases, Contains-append_left, Contains-append_right, Contains-push}
 use Rattle.hx_base.specs.Spans.{bytes_in}
 use Rattle.hx_base.specs.declared.numbers.ConnId.{ConnId}
+use Rattle.hx_base.specs.declared.numbers.PlaceNo.{PlaceNo}
 use Rattle.hx_base.specs.declared.numbers.ServerNo.{ServerNo}
 use Rattle.hx_base.specs.declared.numbers.SessionNo.{SessionNo}
 use Rattle.hx_base.specs.declared.numbers.ThreadNo.{ThreadNo}
@@ -14,7 +15,8 @@ use Rattle.hx_conn.specs.WhatTold.{what_of_link}
 use Rattle.hx_link.specs.Nets.{DialTold, NetState, TellsDial}
 use Rattle.hx_link.specs.Told.{LinkState}
 use Rattle.hx_message.specs.Message.{Persists}
-use Rattle.hx_pool.specs.SeatView.{About, History}
+use Rattle.hx_pool.specs.SeatView.{About, History, Makes}
+use Rattle.hx_pool.specs.History.{marks_of}
 use Rattle.hx_pool.specs.declared.entries.Note.{Note}
 use Rattle.hx_record.specs.Truth.{IsTruePassed}
 use Rattle.hx_record.specs.declared.served.Carried.{Carried}
@@ -25,12 +27,12 @@ use Rattle.hx_record.specs.declared.served.Served.{Served}
 use Rattle.hx_record.specs.declared.served.Told.{Told}
 use Rattle.hx_record.specs.declared.served.Told.TheVariants as line
 use Rattle.hx_connecting.specs.Exchanges.{EndsWith, ExchangeGoes, PassedEnds}
-use Rattle.hx_connecting.specs.Links.{GainsAll, NoLinkGoes, IsBuried, TellsAfter}
+use Rattle.hx_connecting.specs.Links.{GainsAll, NoLinkGoes, IsBuried, TellsBefore, TellsAfter}
 use Rattle.hx_connecting.specs.Sessions.{SessionNow, is_first}
-use Rattle.hx_connecting.specs.Touches.{Went, Stays, Rests, Ends, EndsTakenBack, Touch, AddsEach, HasMarks}
+use Rattle.hx_connecting.specs.Touches.{Came, Had, Opened, Took, Went, Stays, Rests, Ends, EndsTakenBack, Touch, Adds, AddsEach, HasMarks, came_marks, went_marks, marks_at}
 use Rattle.hx_connecting.specs.Ways.{IsOwn}
 use Rattle.hx_session.specs.Doings.{Doing}
-use Rattle.hx_session.specs.Records.{WhereTold, Leaves}
+use Rattle.hx_session.specs.Records.{IsOfMethod, WhereTold, Leaves}
 use Rattle.hx_session.specs.Touching.{Touches, TouchesOne, after_of}
 use Rattle.hx_session.specs.declared.step.Step.{Step}
 use Rattle.hx_worker.proofs.HeadlineOfStep.{headline_of_step}
@@ -38,7 +40,7 @@ use Rattle.hx_worker.specs.Headline.{doing_of, dialled_by}
 use Rattle.hx_session.specs.Telling.{RecordsTold}
 use Rattle.hx_worker.specs.Steps.{Steps, gone_of, buried_with, placed}
 use Rattle.hx_worker.specs.Workers.{WorkerNow, HasSeats, session_of}
-use Rattle.hx_course.specs.Calls.{AreAlone, HadFor, TookLast, TouchGoes, EndsExchange, IsOfMethod, step_touched, step_graves, StepTook, StepGoesOn}
+use Rattle.hx_course.specs.Calls.{AreAlone, HadFor, TookLast, TouchGoes, EndsExchange, step_touched, step_graves}
 use Rattle.hx_course.specs.Clients.{KeepsClients}
 use Rattle.hx_course.specs.Conns.{KeepsConns}
 use Rattle.hx_course.specs.Courses.{KeepsCourse}
@@ -49,11 +51,11 @@ use Rattle.hx_course.proofs.DialLemmas.{dials_on, step_dialled}
 use Rattle.hx_course.specs.Places.{ConnIs, KeepsDials, LinksGoOn, BytesGrow}
 use Rattle.hx_course.specs.Truths.{IsTrueOpen, IsTrueNow, KeepsTruth}
 use Rattle.hx_course.proofs.ClientLemmas.{clients_go, not_conn}
-use Rattle.hx_course.proofs.ConnLemmas.{its_record, held_in, conns_go}
-use Rattle.hx_course.proofs.GoingLemmas.{touched_place, links_on, record_now}
+use Rattle.hx_course.proofs.ConnLemmas.{its_over, its_record, held_in, conns_go}
+use Rattle.hx_course.proofs.GoingLemmas.{adds_new, from_zero, marks_here, touched_place, links_on, record_now}
 use Rattle.hx_course.proofs.Numbers.{some_is, found_number}
 use Rattle.hx_course.proofs.OwnerLemmas.{conn_clients, conn_dials, order_after, owners_go}
-use Rattle.hx_course.proofs.TableLemmas.{none_in, one_in}
+use Rattle.hx_course.proofs.TableLemmas.{NoParks, none_in, one_in, what_before}
 use Rattle.hx_course.proofs.TruthLemmas.{passed_open, truth_on, link_grows}
 
 -- ---- graves and burials
@@ -102,6 +104,33 @@ Touched d graves conn gone y =
     (k : TouchGoes d.old d.new d.before.seats d.after.seats d.added d.before.net d.after.net y)
     × ((l : LinkState) → k.goes.gone ≡ Some l → Contains graves (grave (OfConn y.server y.id) l)) × (conn ≡ k.goes.after) × (gone ≡ k.goes.gone)
     × ExchangeGoes d.old d.new y y.went k.goes.before d.served × IfSome d.served (λ r. PassedEnds d.old y k.goes.after r.kind)
+
+-- a connection that was taken told what stood beside its last Park
+took_marks : (t : ThreadNo) (n : SessionNo) (first : Bool) (z : Touch) (w : Went) (place : PlaceNo) (uses : ℕ) → HadFor w (Took place uses) → NoParks (came_marks t n first z.id (Took place uses) ++ went_marks t n z.id w)
+took_marks t n first z Stays place uses h = (tt, tt)
+took_marks t n first z (Rests p u) place uses h = let no_ : Took place uses ≡ Had = h in cc
+took_marks t n first z Ends place uses h = (tt, (tt, tt))
+took_marks t n first z (EndsTakenBack p u) place uses h = let no_ : Took place uses ≡ Had = h in cc
+
+took_last : (d : Doing) (z : Touch) (t : TouchesOne d z) (n : SessionNo) (th : ThreadNo) (first : Bool) → Adds th n first (Some z) d.before.seats d.after.seats d.added → AreAlone d.before.seats
+    → (c : Came) → z.came ≡ c → HadFor z.went c → TellsBefore d.old t.at.history t.at.es z c t.goes.before → TookLast d.before.seats z.server z.id c t.goes.before
+took_last d z t n th first adds alone Had e had b = tt
+took_last d z t n th first adds alone Opened e had b = tt
+took_last d z t n th first adds alone (Took place uses) e had b = λ g at.
+    let k = adds_new (HasMarks th n first (Some z)) 0 d.before.seats d.after.seats d.added z.server.0 t.at.history t.at.es adds t.at.seat t.at.entries in
+    let makes : Makes g t.at.history t.at.es = subst (λ (h : History). Makes h t.at.history t.at.es) (some_is k.0 g (sym k.1 ∙ at)) k.2 in
+    let marks : marks_of t.at.es ≡ came_marks th n first z.id (Took place uses) ++ went_marks th n z.id z.went =
+    subst (λ (i : ℕ). marks_of t.at.es ≡ marks_at th n first (Some z) i) (from_zero z.server.0) k.3.marks
+    ∙ (marks_here th n first z z.server.0 refl ∙ ap (λ (q : Came). came_marks th n first z.id q ++ went_marks th n z.id z.went) e) in
+    b.1.5 ∙ (sym b.1.4 ∙ what_before g t.at.history t.at.es b.1.0 b.1.1 b.1.6 z.id.0 makes (alone z.server.0 g at) (subst NoParks (sym marks) (took_marks th n first z z.went place uses had)) b.1.3 b.1.7)
+
+abbrev StepTook : (d : Doing) (x : Option Touch) → Touches d x → Type 0
+StepTook d None t = ⊤
+StepTook d (Some x) t = TookLast d.before.seats x.server x.id x.came t.goes.before
+
+step_took : (d : Doing) (x : Option Touch) (t : Touches d x) (n : SessionNo) (th : ThreadNo) (first : Bool) → Adds th n first x d.before.seats d.after.seats d.added → AreAlone d.before.seats → StepTook d x t
+step_took d None t n th first adds alone = tt
+step_took d (Some z) t n th first adds alone = took_last d z t n th first adds alone z.came refl (had_for d.old d.new z z.went t.goes.before d.served t.exchange) t.goes.was
 
 touched_one : (d : Doing) (z : Touch) (t : TouchesOne d z) → TookLast d.before.seats z.server z.id z.came t.goes.before → Touched d (conn_graves z.server z.id t.goes.gone) t.goes.after t.goes.gone z
 touched_one d z t took = (
@@ -247,7 +276,7 @@ pub in_order : (P : ℕ → List Note → Type 0) (old new : List History) (adde
 in_order P old new added a order k h e = order_after P 0 0 old new added a (λ m g f. order m g f ∙ omega arith) k h e ∙ omega arith
 
 module _ (w w' : WorkerNow) (net net' : NetState) (n : SessionNo) (r : Step) (k : Steps w w' net net' n r) (records : List Told) (graves : List Grave) (seats : HasSeats w) (seats' : HasSeats w')
-    (goes : StepGoesOn w w' net net' n r k) (keeps : KeepsCourse w net records graves) where
+    (keeps : KeepsCourse w net records graves) where
   abbrev s : SessionNow
   s = k.session
 
@@ -285,7 +314,7 @@ module _ (w w' : WorkerNow) (net net' : NetState) (n : SessionNo) (r : Step) (k 
   its = keeps.owners.its s.number.0 s there
 
   touched : (y : Touch) → x ≡ Some y → Touched d closed (after_of d x t) (gone_of d x t) y
-  touched y e = touched_some d x t goes.took y e
+  touched y e = touched_some d x t (step_took d x t s.number s.worker (is_first s) k.step.links.touches.adds keeps.alone) y e
 
   old_grave : (g : Grave) → Contains graves g → Contains (graves ++ more) g
   old_grave g c = Contains-append_left graves more g c
@@ -322,7 +351,7 @@ module _ (w w' : WorkerNow) (net net' : NetState) (n : SessionNo) (r : Step) (k 
       (record_now w.sessions w.last s a w.seats w'.seats d.added (is_first s) net k.mid x graves (graves ++ more) keeps.owners.rise there worker number empty
       k.step.links.touches.adds keeps.alone client_grows old_grave client_grave (touched_none d x t) some_touch
       records (after_of d x t) r.left v told k.step.tells.leaves (own_none d x t v e) (λ y f. (touched y f).2)
-      (ends_some d x t v e (subst (λ (o : Option Served). IfSome o (λ q. IsOfMethod s a.client (after_of d x t) q q.kind)) e goes.method)))
+      (ends_some d x t v e told.method))
 
   truth_step : KeepsTruth (placed w.sessions a) w'.seats (records ++ lines) (graves ++ more)
   truth_step = all_told (placed w.sessions a) w'.seats records (graves ++ more) r.served r.left
@@ -330,7 +359,7 @@ module _ (w w' : WorkerNow) (net net' : NetState) (n : SessionNo) (r : Step) (k 
 
   clients_step : KeepsClients w.thread w.last (placed w.sessions a) (records ++ lines) (graves ++ more)
   clients_step = clients_go w.thread w.last w.sessions s a (after_of d x t) r.served r.left records graves closed (step_no_client d x t) keeps.owners.rise its there worker number
-      k.step.links.records k.step.tells.leaves goes.rises keeps.clients
+      k.step.links.records k.step.tells.leaves keeps.clients
 
   new_grave : (server : ServerNo) (id : ConnId) (l : LinkState) → Contains (graves ++ more) (grave (OfConn server id) l)
       → Contains graves (grave (OfConn server id) l) ⊎ ((y : Touch) × (e : x ≡ Some y) × (server ≡ y.server) × (id ≡ y.id) × ((touched y e).0.goes.gone ≡ Some l))
@@ -347,7 +376,7 @@ module _ (w w' : WorkerNow) (net net' : NetState) (n : SessionNo) (r : Step) (k 
   conns_step : KeepsConns (placed w.sessions a) w'.seats (records ++ lines) (graves ++ more)
   conns_step = conns_go w.sessions w.last s a w.seats w'.seats d.added (is_first s) net k.mid x graves (graves ++ more) records r.served r.left keeps.owners.rise there worker number empty
       k.step.links.touches.adds keeps.alone (its_record s a (after_of d x t) r.left r.served k.step.links.records) (own_all d x t) (touched_none d x t) (λ y e. (touched y e).0)
-      (λ y e. (touched y e).4) (λ y e. (touched y e).5) goes.conn goes.rises.record_rises new_grave (held_in w.seats w.sessions seats.owns seats.one) keeps.conns
+      (λ y e. (touched y e).4) (λ y e. (touched y e).5) (its_over s a (after_of d x t) r.left r.served k.step.links.records) new_grave (held_in w.seats w.sessions seats.owns seats.one) keeps.conns
 
   new_dial : (e : DialTold) → Contains (dialled_by d x t) e → e.answered ≡ true → (v : What) × ConnIs (placed w.sessions a) w'.seats (graves ++ more) e.server e.id v
   unfolding some_touch touched

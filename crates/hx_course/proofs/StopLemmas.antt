@@ -19,9 +19,9 @@ use Rattle.hx_record.specs.declared.served.Told.{Told}
 use Rattle.hx_record.specs.declared.served.Left.{Left}
 use Rattle.hx_connecting.specs.Exchanges.{IsClosed, ExchangeGoes, PassedEnds}
 use Rattle.hx_connecting.specs.Links.{NoLinkGoes}
-use Rattle.hx_connecting.specs.Sessions.{SessionNow, Holding, is_first}
+use Rattle.hx_connecting.specs.Sessions.{SessionNow, is_first}
 use Rattle.hx_connecting.specs.Touches.{Came, Had, Went, Ends, Touch, HasMarks}
-use Rattle.hx_connecting.specs.Ways.{IsOwn, HasNoExchange}
+use Rattle.hx_connecting.specs.Ways.{IsOwn}
 use Rattle.hx_session.specs.Doings.{Doing}
 use Rattle.hx_session.specs.Records.{leaves_for}
 use Rattle.hx_session.specs.Stopping.{StopsConn, StopTouches, StopsKind, stopped_of}
@@ -33,16 +33,16 @@ use Rattle.hx_worker.specs.Workers.{WorkerNow, HasSeats, session_of}
 use Rattle.hx_worker.proofs.ByNumber.{session_here}
 use Rattle.hx_course.specs.Calls.{HadFor, TookLast, TouchGoes, EndsExchange, stop_touched, stopping_of, stop_graves}
 use Rattle.hx_course.specs.Clients.{KeepsClients}
-use Rattle.hx_course.specs.Conns.{KeepsConns, ConnGoesOn}
+use Rattle.hx_course.specs.Conns.{KeepsConns}
 use Rattle.hx_course.specs.Courses.{KeepsCourse}
 use Rattle.hx_course.specs.Graves.{Grave, OfClient, OfConn, grave, links_of, conn_graves, client_graves, clients_of, TellsOwner}
-use Rattle.hx_course.specs.Lines.{lines_of, TellsRising}
+use Rattle.hx_course.specs.Lines.{lines_of}
 use Rattle.hx_course.specs.Owners.{KeepsOwners}
 use Rattle.hx_course.proofs.DialLemmas.{dials_stay, then_stays, stop_dialled}
 use Rattle.hx_course.specs.Places.{KeepsDials, ToldGrows, BytesGrow, LinksGoOn}
 use Rattle.hx_course.specs.Truths.{IsTrueNow, KeepsTruth}
 use Rattle.hx_course.proofs.ClientLemmas.{clients_go, not_conn}
-use Rattle.hx_course.proofs.ConnLemmas.{its_record, held_in, conns_go}
+use Rattle.hx_course.proofs.ConnLemmas.{its_over, its_record, held_in, conns_go}
 use Rattle.hx_course.proofs.GoingLemmas.{links_on, record_now}
 use Rattle.hx_course.proofs.Numbers.{some_is}
 use Rattle.hx_course.proofs.OwnerLemmas.{conn_clients, conn_dials, owners_go}
@@ -163,14 +163,6 @@ passed_stop s y after (Some r) c k = by_kind r.kind k
     by_kind (kind.Cut q why) h = c
     by_kind (kind.Own status) h = inl c
 
--- nothing is with a session that was stopped
-conn_stopped : (s a : SessionNow) (served : Option Served) → a.conn ≡ None → ConnGoesOn s a served
-conn_stopped s a served e = record {
-  over = λ r q n. subst (λ (o : Option Holding). HasNoExchange o) (sym e) tt;
-  still = λ q r f g. let other = sym e ∙ g in cc;
-  counted = λ r g. let other = sym e ∙ g in cc;
-}
-
 own_stop : (s a : SessionNow) (conn : Option What) (left : Option Left) (served : Option Served) → s.conn ≡ None → RecordsTold s a conn left served → IfSome served (λ r. IsOwn r.kind)
 own_stop s a conn left None e t = tt
 own_stop s a conn left (Some r) e t = own_kind s a conn (leaves_for left) r r.kind e t.kind
@@ -184,7 +176,7 @@ stop_clients d None t = refl
 stop_clients d (Some z) t = conn_clients z.server z.id t.goes.gone
 
 module _ (w w' : WorkerNow) (net net' : NetState) (x : Stopped) (k : StopsOne w w' net net' x) (records : List Told) (graves : List Grave) (seats : HasSeats w)
-    (rises : TellsRising x.served (Some x.left)) (keeps : KeepsCourse w net records graves) where
+    (keeps : KeepsCourse w net records graves) where
   abbrev s : SessionNow
   s = k.session
 
@@ -282,7 +274,7 @@ module _ (w w' : WorkerNow) (net net' : NetState) (x : Stopped) (k : StopsOne w 
   clients_stop : KeepsClients w.thread w.last (placed w.sessions a) (records ++ lines) (graves ++ more)
   clients_stop = subst (λ (gs : List Grave). KeepsClients w.thread w.last (placed w.sessions a) (records ++ lines) (graves ++ (closed ++ gs))) same_graves
       (clients_go w.thread w.last w.sessions s a (stopped_of d z t) x.served (Some x.left) records graves closed (stop_no_client d z t) keeps.owners.rise its first worker number
-      (k.stop.links w.turns).records k.stop.tells.leaves rises keeps.clients)
+      (k.stop.links w.turns).records k.stop.tells.leaves keeps.clients)
 
   new_grave : (server : ServerNo) (id : ConnId) (l : LinkState) → Contains (graves ++ more) (grave (OfConn server id) l)
       → Contains graves (grave (OfConn server id) l) ⊎ ((y : Touch) × (e : z ≡ Some y) × (server ≡ y.server) × (id ≡ y.id) × ((touched y e).0.goes.gone ≡ Some l))
@@ -304,7 +296,7 @@ module _ (w w' : WorkerNow) (net net' : NetState) (x : Stopped) (k : StopsOne w 
       (k.stop.links w.turns).adds keeps.alone (its_record s a (stopped_of d z t) (Some x.left) x.served told)
       (λ e. own_stop s a (stopped_of d z t) (Some x.left) x.served (no_conn d z t e) told) (touched_none d z t) (λ y e. (touched y e).0)
       (λ y e. exch_ends s a y (touched y e).0.goes.before x.served (went_is d z t y e)) (λ y e. passed_stop s y (touched y e).0.goes.after x.served (went_ends d z t y e) k.stop.tells.kind)
-      (conn_stopped s a x.served (stopped_conn s k.client x.served)) rises.record_rises new_grave (held_in w.seats w.sessions seats.owns seats.one) keeps.conns
+      (its_over s a (stopped_of d z t) (Some x.left) x.served told) new_grave (held_in w.seats w.sessions seats.owns seats.one) keeps.conns
 
   -- the client's dial stays
   dial : a.client.dial ≡ s.client.dial

@@ -1,6 +1,7 @@
 -- What a call's marks at a seat leave of each connection, where no other thread makes entries there.
-use Rattle.std.proofs.Common.{◌≡◌, ◌≢◌, ⊎_elim, ℕ, ◌<◌, Bool, true, false, cond, List, [], ◌∷◌, ◌++◌, refl, sym, ap, ◌∙◌, subst, arith, Option}
+use Rattle.std.proofs.Common.{◌≡◌, ◌≢◌, ⊎_elim, ℕ, ◌<◌, Bool, true, false, cond, List, [], ◌∷◌, ◌++◌, refl, sym, ap, ◌∙◌, subst, append_assoc, arith, Option}
 use Rattle.std.specs.Prelude.{Contains, ⊤}
+use Rattle.std.proofs.lemmas.List.{append_cancel_right}
 use Rattle.std.proofs.lemmas.List.Elements.{Contains-append_cases, Contains-push_cases}
 use mathlib.Core.Logic.{dite}
 use native.Mathlib.Decide.{ℕ_discrete}
@@ -13,7 +14,7 @@ use Rattle.hx_pool.specs.declared.entries.Entry.{Entry}
 use Rattle.hx_pool.specs.declared.entries.Entry.TheVariants.{Open, Park, Take, Free, Close, Look, Up, Down, Count, Gate, SetGate, Round}
 use Rattle.hx_pool.specs.declared.entries.Note.{Note}
 use Rattle.hx_pool.specs.Table.{Conn, put, Table, Unopened, HeldBy, IdleAt, Closed, Needs, after_entry, after, empty_table}
-use Rattle.hx_pool.specs.History.{is_mark, marks_of, table_from, table_after, EachStep, MeetsNeeds, IsLegal}
+use Rattle.hx_pool.specs.History.{is_mark, marks_of, own_of, what_of, table_from, table_after, EachStep, MeetsNeeds, IsLegal}
 use Rattle.hx_pool.specs.SeatView.{About, History, Makes, AllBelow}
 use Rattle.hx_pool.proofs.Counting.{all_own, below-second}
 use Rattle.hx_pool.proofs.Histories.{table_from-append, EachStep-first, EachStep-second, marks_of-append}
@@ -105,6 +106,57 @@ spare_entry i T w (Round t k old) more a = (record { conn = refl; what = refl; u
 pub spared : (i : ℕ) (T : Table) (es : List Note) → AllSpare i (marks_of es) → IsSameAt i T (table_from T es)
 spared i T [] a = same_here i T
 spared i T (x ∷ xs) a = let r = spare_entry i T x.what x.entry (marks_of xs) a in same_then i T (after T x) (table_from (after T x) xs) r.0 (spared i (after T x) xs r.1)
+
+-- ---- entries without a Park
+
+abbrev pub IsNoPark : Entry → Type 0
+IsNoPark (Park t n id place uses) = ⊥
+IsNoPark _ = ⊤
+
+abbrev pub NoParks : List Entry → Type 0
+NoParks [] = ⊤
+NoParks (e ∷ es) = IsNoPark e × NoParks es
+
+no_park_first : (xs ys : List Entry) → NoParks (xs ++ ys) → NoParks xs
+no_park_first [] ys a = tt
+no_park_first (x ∷ xs) ys a = (a.0, no_park_first xs ys a.1)
+
+no_park_rest : (b : Bool) (e : Entry) (more : List Entry) → NoParks (cond b (e ∷ more) more) → NoParks more
+no_park_rest true e more a = a.1
+no_park_rest false e more a = a
+
+no_park_entry : (i : ℕ) (T : Table) (w : Option What) (e : Entry) (more : List Entry) → NoParks (cond (is_mark e) (e ∷ more) more) → ((after_entry T w e).whats i ≡ T.whats i) × NoParks more
+no_park_entry i T w (Open t n id) more a = (refl, a.1)
+no_park_entry i T w (Park t n id place uses) more a = absurd a.0
+no_park_entry i T w (Take t n first place id uses) more a = (refl, a.1)
+no_park_entry i T w (Close t n id) more a = (refl, a.1)
+no_park_entry i T w (Free t place) more a = (refl, a)
+no_park_entry i T w (Look t place found) more a = (refl, a)
+no_park_entry i T w (Up t old) more a = (refl, a)
+no_park_entry i T w (Down t old) more a = (refl, a)
+no_park_entry i T w (Count t c) more a = (refl, a)
+no_park_entry i T w (Gate t draining) more a = (refl, a)
+no_park_entry i T w (SetGate t draining) more a = (refl, a.1)
+no_park_entry i T w (Round t k old) more a = (refl, no_park_rest (is_mark (Round t k old)) (Round t k old) more a)
+
+-- they leave what stands beside each connection
+what_along : (i : ℕ) (T : Table) (es : List Note) → NoParks (marks_of es) → (table_from T es).whats i ≡ T.whats i
+what_along i T [] a = refl
+what_along i T (x ∷ xs) a = let r = no_park_entry i T x.what x.entry (marks_of xs) a in what_along i (after T x) xs r.1 ∙ r.0
+
+-- so where a call without a Park is alone, what stood beside a connection behind some of its entries is what stood there before it
+pub what_before : (old new : History) (es H later front : List Note) (i : ℕ) → Makes old new es → old.about.threads ≡ 1 → NoParks (marks_of es) → new.seen ≡ H ++ later
+    → es ≡ front ++ own_of new.about.thread later → what_of H i ≡ what_of old.seen i
+what_before old new es H later front i m one none seen own =
+    let t = new.about.thread in
+    let same : new.about.threads ≡ 1 = ap (λ (a : About). a.threads) m.about ∙ one in
+    let low : AllBelow 1 (H ++ later) = subst (AllBelow 1) seen (subst (λ k. AllBelow k new.seen) same m.one.threads) in
+    let zero_is : t.0 < 1 = subst (λ k. t.0 < k) same m.one.inside.0 in
+    let whole : es ≡ front ++ later = own ∙ ap (λ l. front ++ l) (all_own t later zero_is (below-second 1 H later low)) in
+    let both : H ++ later ≡ (old.seen ++ front) ++ later = sym seen ∙ (seen_alone old new es m one ∙ (ap (λ l. old.seen ++ l) whole ∙ sym (append_assoc old.seen front later))) in
+    let H_is : H ≡ old.seen ++ front = append_cancel_right H (old.seen ++ front) later both in
+    let marks : NoParks (marks_of front) = no_park_first (marks_of front) (marks_of later) (subst NoParks (ap marks_of whole ∙ marks_of-append front later) none) in
+    ap (λ l. what_of l i) H_is ∙ (ap (λ (S : Table). S.whats i) (table_from-append empty_table old.seen front) ∙ what_along i (table_after old.seen) front marks)
 
 -- ---- the first mark
 

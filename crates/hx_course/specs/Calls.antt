@@ -1,39 +1,33 @@
 -- What a course takes of a session's call: how the link of the connection that it touched goes, and which links it buries.
-use Rattle.std.specs.Prelude.{◌≡◌, ◌⊎◌, ℕ, List, [], ◌++◌, true, Option, IfSome, Some, None, slice_get, ⊤}
+use Rattle.std.specs.Prelude.{◌≡◌, ◌⊎◌, ℕ, List, [], ◌++◌, true, Option, Some, None, slice_get, ⊤}
 use Rattle.hx_base.specs.declared.numbers.ConnId.{ConnId}
 use Rattle.hx_base.specs.declared.numbers.ServerNo.{ServerNo}
 use Rattle.hx_base.specs.declared.numbers.SessionNo.{SessionNo}
 use Rattle.hx_base.specs.declared.what.What.{What}
-use Rattle.hx_conn.specs.Conns.{BusyNow}
-use Rattle.hx_conn.specs.WhatTold.{what_of_link}
 use Rattle.hx_link.specs.Nets.{NetState}
 use Rattle.hx_link.specs.Told.{LinkState}
 use Rattle.hx_pool.specs.declared.entries.Note.{Note}
 use Rattle.hx_pool.specs.History.{what_of}
 use Rattle.hx_pool.specs.SeatView.{History}
-use Rattle.hx_record.specs.Truth.{IsTruePassed}
 use Rattle.hx_record.specs.declared.served.Kind.{Kind}
 use Rattle.hx_record.specs.declared.served.Kind.TheVariants as kind
 use Rattle.hx_record.specs.declared.served.Served.{Served}
 use Rattle.hx_connecting.specs.Sessions.{around_with}
 use Rattle.hx_connecting.specs.Exchanges.{IsClosed}
 use Rattle.hx_connecting.specs.Links.{LinkGoes}
-use Rattle.hx_connecting.specs.Sessions.{SessionNow, Exchanging}
+use Rattle.hx_connecting.specs.Sessions.{SessionNow}
 use Rattle.hx_connecting.specs.Touches.{Came, Had, Opened, Took, Went, Stays, Rests, Ends, EndsTakenBack, Touch}
 use Rattle.hx_session.specs.Doings.{Doing}
-use Rattle.hx_session.specs.Records.{WhereTold, told_of}
 use Rattle.hx_session.specs.Stopping.{StopTouches, stopping}
 use Rattle.hx_session.specs.Telling.{stopped}
 use Rattle.hx_session.specs.Touching.{Touches}
 use Rattle.hx_session.specs.declared.step.Step.{Step}
 use Rattle.hx_worker.specs.declared.answers.Stopped.{Stopped}
-use Rattle.hx_worker.specs.Headline.{doing_of, conn_after}
+use Rattle.hx_worker.specs.Headline.{doing_of}
 use Rattle.hx_worker.specs.Steps.{Steps}
 use Rattle.hx_worker.specs.Stops.{StopsOne}
 use Rattle.hx_worker.specs.Workers.{WorkerNow}
-use Rattle.hx_course.specs.Conns.{ConnGoesOn}
 use Rattle.hx_course.specs.Graves.{Grave, conn_graves, client_graves}
-use Rattle.hx_course.specs.Lines.{TellsRising}
 use Rattle.hx_course.specs.Truths.{WhereBoth, IsTrueOpen}
 
 -- no other thread makes entries at the seats
@@ -73,15 +67,6 @@ EndsExchange went client conn r (kind.Passed c) =
 EndsExchange went client conn r (kind.Cut c why) = IsClosed went
 EndsExchange went client conn r (kind.Own status) = ⊤
 
--- a passed record is of a request of its exchange's method
-abbrev pub IsOfMethod : SessionNow → LinkState → Option What → Served → Kind → Type 0
-IsOfMethod s client conn r (kind.Passed c) =
-    (b : BusyNow) → s.conn ≡ Some (Exchanging b)
-    → WhereTold (what_of_link client).told (λ x. WhereTold (told_of conn) (λ y.
-    (p : IsTruePassed r c x y) × (p.method ≡ b.exchange.method)))
-IsOfMethod s client conn r (kind.Cut c why) = ⊤
-IsOfMethod s client conn r (kind.Own status) = ⊤
-
 -- ---- a step
 
 -- the grave of the connection that a step closed
@@ -95,19 +80,6 @@ abbrev pub step_graves : (w w' : WorkerNow) (net net' : NetState) (n : SessionNo
 step_graves w w' net net' n r k =
     step_touched (doing_of w w' net net' n r k) k.step.links.touches.touch k.step.links.touches.touched
     ++ client_graves k.after.over k.after
-
--- the touched connection, if it was taken, told what stood beside its last Park
-abbrev pub StepTook : (d : Doing) (x : Option Touch) → Touches d x → Type 0
-StepTook d None t = ⊤
-StepTook d (Some x) t = TookLast d.before.seats x.server x.id x.came t.goes.before
-
--- what a course needs of a step beside what the worker says of it
-pub record StepGoesOn (w w' : WorkerNow) (net net' : NetState) (n : SessionNo) (r : Step) (k : Steps w w' net net' n r)
-    : Type 0 where
-  pub took : StepTook (doing_of w w' net net' n r k) k.step.links.touches.touch k.step.links.touches.touched
-  pub method : IfSome r.served (λ v. IsOfMethod k.session k.after.client (conn_after w w' net net' n r k) v v.kind)
-  pub conn : ConnGoesOn k.session k.after r.served
-  pub rises : TellsRising r.served r.left
 
 -- ---- a stop
 

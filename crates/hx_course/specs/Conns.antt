@@ -1,19 +1,16 @@
 -- How far the exchanges that records tell reach in the bytes of each connection's link, over a whole course.
-use Rattle.std.specs.Prelude.{◌≡◌, ℕ, List, length, Contains, Option, Some, IfSome, IsSome, slice_get}
+use Rattle.std.specs.Prelude.{◌≡◌, ℕ, List, length, Contains, Some, IfSome, IsSome, slice_get}
 use Rattle.hx_base.specs.declared.numbers.ConnId.{ConnId}
 use Rattle.hx_base.specs.declared.numbers.ServerNo.{ServerNo}
 use Rattle.hx_base.specs.declared.what.What.{What}
-use Rattle.hx_conn.specs.Conns.{RestedNow}
 use Rattle.hx_conn.specs.WhatTold.{what_of_link}
-use Rattle.hx_link.specs.Told.{LinkState, IsCounted}
+use Rattle.hx_link.specs.Told.{LinkState}
 use Rattle.hx_pool.specs.History.{table_after}
 use Rattle.hx_pool.specs.SeatView.{History}
 use Rattle.hx_pool.specs.Table.{Unopened, Closed}
 use Rattle.hx_record.specs.Covers.{CoversConn}
-use Rattle.hx_record.specs.declared.served.Served.{Served}
 use Rattle.hx_record.specs.declared.served.Told.{Told}
 use Rattle.hx_connecting.specs.Sessions.{SessionNow, Holding, Resting, Exchanging, conn_link}
-use Rattle.hx_connecting.specs.Ways.{IsOwn, HasNoExchange}
 use Rattle.hx_worker.specs.Workers.{session_of}
 use Rattle.hx_course.specs.Graves.{Grave, OfConn, grave}
 use Rattle.hx_course.specs.Places.{IsAtRest}
@@ -57,12 +54,3 @@ pub record KeepsConns (sessions : List SessionNow) (seats : List History) (recor
   -- one whose link was buried is closed
   pub buried : (server : ServerNo) (id : ConnId) (l : LinkState) → Contains graves (grave (OfConn server id) l)
       → IsOver seats server id × (IsSome (what_of_link l).told → CoversSome server id records)
-
--- what these need of a session's call beside what the worker says of it
-pub record ConnGoesOn (s a : SessionNow) (served : Option Served) : Type 0 where
-  -- with the record of an exchange none is under way any more
-  pub over : (r : Served) → served ≡ Some r → (IsOwn r.kind → ⊥) → HasNoExchange a.conn
-  -- a connection that rests with its session is moved no byte, and its link counts what it tells
-  pub still : (q r : RestedNow) → s.conn ≡ Some (Resting q) → a.conn ≡ Some (Resting r)
-      → (r.link.sent_count ≡ q.link.sent_count) × (r.link.taken_count ≡ q.link.taken_count)
-  pub counted : (r : RestedNow) → a.conn ≡ Some (Resting r) → IsCounted r.link

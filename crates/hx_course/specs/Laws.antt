@@ -27,11 +27,11 @@ use Rattle.hx_worker.specs.Cares.{TicksAll, CarriesOut}
 use Rattle.hx_worker.specs.Steps.{Steps}
 use Rattle.hx_worker.specs.Stops.{StopsOne}
 use Rattle.hx_worker.specs.Workers.{WorkerNow, HasSeats, new_worker}
-use Rattle.hx_course.specs.Calls.{AreAlone, StepGoesOn, step_graves, stop_graves}
+use Rattle.hx_course.specs.Calls.{AreAlone, step_graves, stop_graves}
 use Rattle.hx_course.specs.Courses.{KeepsCourse}
 use Rattle.hx_course.specs.Endings.{TellsGraves, IsEmptied}
 use Rattle.hx_course.specs.Graves.{Grave, OfNobody, grave, AreBuried}
-use Rattle.hx_course.specs.Lines.{lines_of, TellsRising}
+use Rattle.hx_course.specs.Lines.{lines_of}
 use Rattle.hx_course.specs.Owners.{AreInOrder}
 use Rattle.hx_course.specs.Places.{IsHeld, IsAtRest, IsInGrave}
 use Rattle.hx_course.specs.Sweeping.{sweep_graves}
@@ -64,7 +64,7 @@ TurnedKeep =
 abbrev pub StepsKeep : Type 0
 StepsKeep =
     (w w' : WorkerNow) (net net' : NetState) (n : SessionNo) (r : Step) (k : Steps w w' net net' n r)
-    (records : List Told) (graves : List Grave) → HasSeats w → HasSeats w' → StepGoesOn w w' net net' n r k
+    (records : List Told) (graves : List Grave) → HasSeats w → HasSeats w'
     → KeepsCourse w net records graves
     → KeepsCourse w' net' (records ++ lines_of r.served r.left) (graves ++ step_graves w w' net net' n r k)
 
@@ -72,7 +72,7 @@ StepsKeep =
 abbrev pub StopsKeep : Type 0
 StopsKeep =
     (w w' : WorkerNow) (net net' : NetState) (x : Stopped) (k : StopsOne w w' net net' x)
-    (records : List Told) (graves : List Grave) → HasSeats w → TellsRising x.served (Some x.left)
+    (records : List Told) (graves : List Grave) → HasSeats w
     → KeepsCourse w net records graves
     → KeepsCourse w' net' (records ++ lines_of x.served (Some x.left)) (graves ++ stop_graves w w' net net' x k)
 

@@ -2,3 +2,4 @@ pub mod Beginning
 pub mod Closing
 pub mod Going
 pub mod Working
+pub mod Coursing

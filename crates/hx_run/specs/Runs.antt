@@ -1,5 +1,5 @@
 -- A replay under way, and what its calls keep.
-use Rattle.std.specs.Prelude.{◌≡◌, ℕ, ◌≤◌, List, [], ◌∷◌, ◌++◌, Option, Some, None}
+use Rattle.std.specs.Prelude.{◌≡◌, ℕ, ◌≤◌, List, ◌++◌, Some}
 use Rattle.hx_base.specs.declared.numbers.Millis.{Millis}
 use Rattle.hx_base.specs.declared.order.Order.{Order}
 use Rattle.hx_caretaker.specs.Caring.{EachSweep}
@@ -10,14 +10,12 @@ use Rattle.hx_config.specs.Limits.{IsWithin, all_servers}
 use Rattle.hx_connecting.specs.Around.{abouts}
 use Rattle.hx_link.specs.MemoryNets.{MemoryNetNow}
 use Rattle.hx_plain.specs.PlainSeat.{first_thread}
-use Rattle.hx_record.specs.declared.served.Left.{Left}
-use Rattle.hx_record.specs.declared.served.Served.{Served}
 use Rattle.hx_record.specs.declared.served.Told.{Told}
-use Rattle.hx_record.specs.declared.served.Told.TheVariants as told
 use Rattle.hx_pool.specs.SeatView.{History}
 use Rattle.hx_worker.specs.declared.answers.Stopped.{Stopped}
 use Rattle.hx_worker.specs.Stops.{StopsOne}
 use Rattle.hx_worker.specs.Workers.{WorkerNow, HasSeats, Each}
+use Rattle.hx_course.specs.Lines.{lines_of}
 use Rattle.hx_run.specs.Overs.{AreAlone, IsKept}
 
 -- the worker and its net, what its sessions told, how many turns were made, how many may be, and how many the last round made
@@ -59,20 +57,6 @@ pub record IsRun (r : RunNow) : Type 0 where
   pub loop : r.net.state.loop_no ≡ 0
   pub within : r.turns ≤ r.most
 
--- the record of an exchange, if there is one
-abbrev pub served_told : Option Served → List Told
-served_told None = []
-served_told (Some s) = told.Served s ∷ []
-
--- the end of a session, if it is told
-abbrev pub left_told : Option Left → List Told
-left_told None = []
-left_told (Some l) = told.Left l ∷ []
-
--- what a step or a stop tells, in order
-abbrev pub told_of : Option Served → Option Left → List Told
-told_of served left = served_told served ++ left_told left
-
 -- a call leaves the configuration, and how many turns may be made; it takes back no turn
 pub record GoesOn (a b : RunNow) : Type 0 where
   pub config : b.worker.config ≡ a.worker.config
@@ -94,4 +78,4 @@ pub record StopsFirst (a b : RunNow) : Type 0 where
   pub roomier : IsRoomier a.worker ready
   pub stopped : Stopped
   pub stops : StopsOne ready b.worker a.net.state b.net.state stopped
-  pub told : b.records ≡ a.records ++ told_of stopped.served (Some stopped.left)
+  pub told : b.records ≡ a.records ++ lines_of stopped.served (Some stopped.left)

@@ -11,7 +11,9 @@ ghost use Rattle.hx_connecting.specs.Journals.{room_of};
 ghost use Rattle.hx_pool.specs.Journal.{Journal, journal_from};
 ghost use Rattle.hx_run.specs.Overs.{HasRoom, ClosedBelow};
 ghost use Rattle.hx_run.specs.Rooms.{RoomBelow};
-ghost use Rattle.hx_run.specs.Runs.{GoesOn, IsRun, IsWorking, IsRoomier, CarriedOut, Ticked, StopsFirst, told_of};
+ghost use Rattle.hx_run.specs.Runs.{GoesOn, IsRun, IsWorking, IsRoomier, CarriedOut, Ticked, StopsFirst};
+ghost use Rattle.hx_run.specs.Courses.{KeepsOn};
+ghost use Rattle.hx_course.specs.Lines.{lines_of};
 ghost use Rattle.hx_run.specs.declared.running.Halt.TheVariants as halt;
 
 use crate::seats::{RunSeat, seats_of};
@@ -60,7 +62,7 @@ pub struct Over {
 
 /// Adds what a step or a stop told.
 fn tell(records: &mut Vec<Told>, served: Option<Served>, left: Option<Left>) -> Result<(), NoMemory>
-    ensures { OnOk result (records.new.items ≡ records.old.items ++ told_of served left) }
+    ensures { OnOk result (records.new.items ≡ records.old.items ++ lines_of served left) }
 {
     if let Some(served) = served {
         records.push(Told::Served(served))?;
@@ -181,6 +183,7 @@ impl<'a> Running<'a> {
     pub fn come(&mut self, line: ClientLine, now: Millis) -> Result<(), NoMemory>
         requires client { is_client_of self.old.worker.config line ≡ true }
         ensures goes { GoesOn self.old self.new }
+        ensures course { OnOk result (KeepsOn self.old self.new) }
     {
         let mut link = MemoryLink::new(line.plan);
         if self.net.attach(&mut link).is_err() {
@@ -208,6 +211,7 @@ impl<'a> Running<'a> {
         ensures goes { GoesOn self.old self.new }
         ensures sessions { self.new.worker.sessions ≡ self.old.worker.sessions }
         ensures carries { OnOk result (CarriedOut what self.old.worker.seats self.new.worker.seats) }
+        ensures course { OnOk result (KeepsOn self.old self.new) }
         ensures run { IsRun self.old × IsRun self.new }
     {
         make_room(&mut self.worker, CARE_MARKS)?;
@@ -223,6 +227,7 @@ impl<'a> Running<'a> {
         ensures goes { GoesOn self.old self.new }
         ensures sessions { self.new.worker.sessions ≡ self.old.worker.sessions }
         ensures ticks { OnOk result (Ticked now self.old.worker.seats self.new.worker.seats) }
+        ensures course { OnOk result (KeepsOn self.old self.new) }
     {
         make_room(&mut self.worker, CARE_MARKS)?;
         self.worker.tick(&mut self.net, now);
@@ -235,7 +240,8 @@ impl<'a> Running<'a> {
         ensures goes { GoesOn self.old self.new }
         ensures turns { self.new.turns ≡ self.old.turns }
         ensures stays { IfOk result (λ r. (r.waits ≡ Ended → ⊥) → IsSome (session_of self.new.worker.sessions n.0)) }
-        ensures told { IfOk result (λ r. self.new.records ≡ self.old.records ++ told_of r.served r.left) }
+        ensures told { IfOk result (λ r. self.new.records ≡ self.old.records ++ lines_of r.served r.left) }
+        ensures course { OnOk result (KeepsOn self.old self.new) }
     {
         make_room(&mut self.worker, STEP_MARKS)?;
         let step = self.worker.step(&mut self.net, n, now);
@@ -254,6 +260,7 @@ impl<'a> Running<'a> {
         ensures within { self.new.turns ≤ self.new.most }
         ensures overrun { result ≡ Err halt.Overrun → self.new.turns ≡ self.new.most }
         ensures there { result ≡ Ok true → IsSome (session_of self.new.worker.sessions n.0) }
+        ensures course { OnOk result (KeepsOn self.old self.new) }
     {
         if self.turns >= self.most {
             return Err(Halt::Overrun);
@@ -274,6 +281,7 @@ impl<'a> Running<'a> {
         ensures goes { GoesOn self.old self.new }
         ensures within { self.new.turns ≤ self.new.most }
         ensures overrun { result ≡ Err halt.Overrun → self.new.turns ≡ self.new.most }
+        ensures course { OnOk result (KeepsOn self.old self.new) }
     {
         while self.turn(n, now)? {}
         Ok(())
@@ -291,6 +299,7 @@ impl<'a> Running<'a> {
         ensures still { result ≡ Ok false → self.new.last ≡ 0 }
         ensures within { self.new.turns ≤ self.new.most }
         ensures overrun { result ≡ Err halt.Overrun → self.new.turns ≡ self.new.most }
+        ensures course { OnOk result (KeepsOn self.old self.new) }
     {
         let before = self.turns;
         let mut after = SessionNo(0);
@@ -310,6 +319,7 @@ impl<'a> Running<'a> {
         ensures goes { GoesOn self.old self.new }
         ensures overrun { result ≡ Err halt.Overrun → self.new.turns ≡ self.new.most }
         ensures still { OnOk result (self.new.last ≡ 0) }
+        ensures course { OnOk result (KeepsOn self.old self.new) }
     {
         while self.round(now)? {}
         Ok(())
@@ -321,6 +331,7 @@ impl<'a> Running<'a> {
         ensures fewer { result ≡ Ok true → length self.new.worker.sessions < length self.old.worker.sessions }
         ensures none { result ≡ Ok false → self.new.worker.sessions ≡ [] }
         ensures stops { result ≡ Ok true → StopsFirst self.old self.new }
+        ensures course { OnOk result (KeepsOn self.old self.new) }
     {
         make_room(&mut self.worker, STEP_MARKS)?;
         match self.worker.stop_next(&mut self.net) {
@@ -339,6 +350,7 @@ impl<'a> Running<'a> {
     pub fn stop_all(&mut self) -> Result<(), NoMemory>
         ensures goes { GoesOn self.old self.new }
         ensures gone { OnOk result (self.new.worker.sessions ≡ []) }
+        ensures course { OnOk result (KeepsOn self.old self.new) }
     {
         while self.stop_one()? {}
         Ok(())
@@ -352,6 +364,7 @@ impl<'a> Running<'a> {
         ensures empty { self.new.worker.sessions ≡ [] }
         ensures closed { (k : ℕ) → k ≡ server.0 → ClosedBelow k self.old.worker.seats
             → OnOk result (ClosedBelow (k + 1) self.new.worker.seats) }
+        ensures course { OnOk result (KeepsOn self.old self.new) }
     {
         self.order(Order::Drain(server))
     }
@@ -375,6 +388,7 @@ impl<'a> Running<'a> {
         ensures goes { GoesOn self.old self.new }
         ensures empty { self.new.worker.sessions ≡ [] }
         ensures closed { OnOk result (ClosedBelow (length self.new.worker.seats) self.new.worker.seats) }
+        ensures course { OnOk result (KeepsOn self.old self.new) }
     {
         let mut at = 0;
         while at < self.servers() {

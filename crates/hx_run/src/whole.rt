@@ -1,9 +1,10 @@
 //! The replay of a whole script, by its moments.
-ghost use Rattle.std.specs.Prelude.{◌≡◌, false, IfOk};
+ghost use Rattle.std.specs.Prelude.{◌≡◌, false, IfOk, OnOk};
 ghost use Rattle.hx_config.specs.Limits.{all_servers};
 ghost use Rattle.hx_config.specs.Views.{meaning};
 ghost use Rattle.hx_run.specs.Dues.{AreDue};
 ghost use Rattle.hx_run.specs.Overs.{AreOver};
+ghost use Rattle.hx_run.specs.Courses.{KeepsOn};
 ghost use Rattle.hx_run.specs.Runs.{GoesOn};
 
 use crate::due::{Due, clients_due, orders_due};
@@ -18,6 +19,7 @@ fn run_orders(running: &mut Running<'_>, due: &mut Due, now: Millis) -> Result<(
     requires due { AreDue running.old.worker.config due.old }
     ensures goes { GoesOn running.old running.new }
     ensures due { AreDue running.old.worker.config due.new }
+    ensures course { OnOk result (KeepsOn running.old running.new) }
 {
     while let Some(what) = due.order(now) {
         running.order(what)?;
@@ -30,6 +32,7 @@ fn run_clients(running: &mut Running<'_>, due: &mut Due, now: Millis) -> Result<
     requires due { AreDue running.old.worker.config due.old }
     ensures goes { GoesOn running.old running.new }
     ensures due { AreDue running.old.worker.config due.new }
+    ensures course { OnOk result (KeepsOn running.old running.new) }
 {
     while let Some(line) = due.client(now) {
         running.come(line, now)?;
@@ -42,6 +45,7 @@ fn run_moment(running: &mut Running<'_>, due: &mut Due, now: Millis) -> Result<(
     requires due { AreDue running.old.worker.config due.old }
     ensures goes { GoesOn running.old running.new }
     ensures due { AreDue running.old.worker.config due.new }
+    ensures course { OnOk result (KeepsOn running.old running.new) }
 {
     run_orders(running, due, now)?;
     run_clients(running, due, now)?;
@@ -53,6 +57,7 @@ fn run_moment(running: &mut Running<'_>, due: &mut Due, now: Millis) -> Result<(
 fn run_moments(running: &mut Running<'_>, due: &mut Due, moments: &[Millis]) -> Result<(), Halt>
     requires due { AreDue running.old.worker.config due.old }
     ensures goes { GoesOn running.old running.new }
+    ensures course { OnOk result (KeepsOn running.old running.new) }
 {
     for now in moments {
         run_moment(running, due, *now)?;

@@ -12,7 +12,7 @@ use Rattle.hx_link.specs.Told.{LinkState}
 use Rattle.hx_pool.specs.declared.entries.Entry.{Entry}
 use Rattle.hx_pool.specs.declared.entries.Note.{Note}
 use Rattle.hx_pool.specs.SeatView.{History}
-use Rattle.hx_record.specs.Truth.{RecountsBytes}
+use Rattle.hx_record.specs.Truth.{RecountsBytes, IsTruePassed}
 use Rattle.hx_record.specs.declared.served.Kind.{Kind}
 use Rattle.hx_record.specs.declared.served.Kind.TheVariants as kind
 use Rattle.hx_record.specs.declared.served.Left.{Left as Leave}
@@ -42,7 +42,7 @@ use Rattle.hx_session.specs.Doings.{Doing}
 use Rattle.hx_session.specs.Ending.{HasOwn}
 use Rattle.hx_session.specs.Linking.{StepLinks, StopLinks}
 use Rattle.hx_session.specs.Parting.{LetsGo, StopCloses, first_of}
-use Rattle.hx_session.specs.Records.{WhereTold, leaves_for, told_of}
+use Rattle.hx_session.specs.Records.{IsOfMethod, WhereTold, leaves_for, told_of}
 use Rattle.hx_session.specs.Seen.{conn_seen, session_seen}
 use Rattle.hx_session.specs.Stages.{StageNow, Reading, Choosing, Exchanging, Answering, Left}
 use Rattle.hx_session.specs.Steps.{doing}
@@ -78,6 +78,13 @@ kind_at s s' a b why r (kind.Cut c w) same t = (
 )
 kind_at s s' a b why r (kind.Own status) same t = t
 
+-- and it is of its request's method
+method_at : (s : SessionNow) (client : LinkState) (a b : Option What) (r : Served) (k : Kind) → ((c : Holding) → s.conn ≡ Some c → told_of b ≡ told_of a) → IsOfMethod s client a r k → IsOfMethod s client b r k
+method_at s client a b r (kind.Passed c) same t = λ x is.
+    subst (λ (o : Option LinkTold). WhereTold (what_of_link client).told (λ v. WhereTold o (λ y. (p : IsTruePassed r c v y) × (p.method ≡ x.exchange.method)))) (sym (same (OnConn x) is)) (t x is)
+method_at s client a b r (kind.Cut c w) same t = tt
+method_at s client a b r (kind.Own status) same t = tt
+
 records_at : (s s' : SessionNow) (a b : Option What) (left : Option Leave) (served : Option Served) → ((c : Holding) → s.conn ≡ Some c → IfSome served (λ r. told_of b ≡ told_of a)) → RecordsTold s s' a left served
     → RecordsTold s s' b left served
 records_at s s' a b left None same t = t
@@ -87,7 +94,11 @@ records_at s s' a b left (Some r) same t = record {
   number = t.number;
   ask = t.ask;
   gave = t.gave;
+  ask_rises = t.ask_rises;
+  gave_rises = t.gave_rises;
   kind = kind_at s s' a b (leaves_for left) r r.kind same t.kind;
+  method = method_at s s'.client a b r r.kind same t.method;
+  over = t.over;
   served = t.served;
   asked = t.asked;
   given = t.given;
@@ -176,10 +187,10 @@ some_is : (c k : Holding) → Some c ≡ Some k → c ≡ k
 some_is c k e = cc
 
 -- what its link told before
-before_told : (s : SessionNow) (h : History) (x : Touch) (came : Came) (w : Option What) (c : Holding) → s.conn ≡ Some c → TellsBefore s h x came w → told_by w ≡ told_of (conn_told s.conn)
-before_told s h x Had w c was t = ap told_by t.2 ∙ sym (ap (λ (o : Option Holding). told_of (conn_told o)) t.1.0)
-before_told s h x Opened w c was t = absurd (none_some c (sym t.0 ∙ was))
-before_told s h x (Took place uses) w c was t = absurd (none_some c (sym t.0 ∙ was))
+before_told : (s : SessionNow) (h : History) (es : List Note) (x : Touch) (came : Came) (w : Option What) (c : Holding) → s.conn ≡ Some c → TellsBefore s h es x came w → told_by w ≡ told_of (conn_told s.conn)
+before_told s h es x Had w c was t = ap told_by t.2 ∙ sym (ap (λ (o : Option Holding). told_of (conn_told o)) t.1.0)
+before_told s h es x Opened w c was t = absurd (none_some c (sym t.0 ∙ was))
+before_told s h es x (Took place uses) w c was t = absurd (none_some c (sym t.0 ∙ was))
 
 by_some : (D : Doing) (x : Touch) (z : Outcome) → ComesOut z D.new D.left → D.new.worker ≡ D.old.worker → D.new.number ≡ D.old.number → AddsFor D.old.worker D.old.number (is_first D.old) (Some x) D.before.seats D.after.seats D.added
     → WayAt D.old.worker D.old.number D.old.conn D.new.conn z D.after.seats D.added D.before.net D.after.net x D.served → TouchedBy D
@@ -200,7 +211,7 @@ by_some D x o comes worker number adds way =
           (subst CloseNone (sym (added_marks D.old.number (is_first D.old) _ 0 D.before.seats D.after.seats D.added x.server.0 way.es adds way.entries)) (free _)))
           (closed_or_free D.old.worker D.old.number (is_first D.old) x);
       faults = way.faults;
-      told = λ c is. told_of_fits D.old x z.0.before z.0.after (conn_told D.old.conn) D.served (before_told D.old way.history x x.came z.0.before c is z.0.was) z.2;
+      told = λ c is. told_of_fits D.old x z.0.before z.0.after (conn_told D.old.conn) D.served (before_told D.old way.history way.es x x.came z.0.before c is z.0.was) z.2;
     }
 
 touched_by : (D : Doing) (x : Option Touch) (z : Outcome) → ComesOut z D.new D.left → D.new.worker ≡ D.old.worker → D.new.number ≡ D.old.number → AddsFor D.old.worker D.old.number (is_first D.old) x D.before.seats D.after.seats D.added → IsAtSeat D.before.seats D.old.conn

@@ -24,6 +24,7 @@ call_same e b failed is link = record {
   uses = ap (λ (x : BusyNow). x.uses) is;
   sent_from = ap (λ (x : BusyNow). x.exchange.sent_from) is;
   taken_from = ap (λ (x : BusyNow). x.exchange.taken_from) is;
+  method = ap (λ (x : BusyNow). x.exchange.method) is;
   link = link;
 }
 
@@ -41,10 +42,10 @@ write_fails_same a b now bytes w = record { taken = ap (λ (l : LinkState). l.ta
 
 -- the exchange but for how far its answer, or its request, is
 pub answer_same : (e : ExchangeNow) (answered : ℕ) (answer : AnswerWay) → IsSameExchange e (record e { answered = answered; answer = answer })
-answer_same e answered answer = record { server = refl; id = refl; uses = refl; sent_from = refl; taken_from = refl; link = link_same e.busy.link }
+answer_same e answered answer = record { server = refl; id = refl; uses = refl; sent_from = refl; taken_from = refl; method = refl; link = link_same e.busy.link }
 
 pub ask_same : (e : ExchangeNow) (ask : AskWay) → IsSameExchange e (record e { ask = ask })
-ask_same e ask = record { server = refl; id = refl; uses = refl; sent_from = refl; taken_from = refl; link = link_same e.busy.link }
+ask_same e ask = record { server = refl; id = refl; uses = refl; sent_from = refl; taken_from = refl; method = refl; link = link_same e.busy.link }
 
 -- the pipes and the moment change alone
 pub still_pipes : (d : DeskNow) (from to up down : PipeNow) (since : Millis) (e f : ExchangeNow) → IsSameExchange e f

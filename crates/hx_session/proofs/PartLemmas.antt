@@ -185,7 +185,7 @@ still_on d e seats net c p conn none placed routed told picks =
 -- an own answer is decided outside of an exchange
 pub goes_answering : {X : Type 0} (d d' : DeskNow) (s : StageNow) (status : ℕ) (held : Option RestedNow) (seats : List History) (net : NetState) (stage : Stage X) (w : Waiting)
     → conn_seen s ≡ resting held → IsBetween d → IsNumbered d → HasAround d.worker d.session (resting held) seats → HasHeld seats d.session held
-    → stage_now stage ≡ own_stage status held → AnswersOwn d d' status → TellsMoved s d d' None → Goes d s seats net d' (Moved stage w None) seats net
+    → stage_now stage ≡ own_stage status held → AnswersOwn d d' status → TellsMoved s d d' (stage_now stage) None → Goes d s seats net d' (Moved stage w None) seats net
 goes_answering d d' s status held seats net stage w conn between numbered around own is a told = record {
   placed = subst (λ (x : StageNow). IsPlaced d' x seats) (sym is) (answers_set d d' status held seats a between.anew.desk between.anew.given numbered around own);
   keeps = place_in d d' seats net (answers_keep d d' status a);
@@ -200,7 +200,7 @@ goes_answering d d' s status held seats net stage w conn between numbered around
 
 -- a part that comes to another stage, and ends the step
 pub goes_to : {X : Type 0} (d d' : DeskNow) (s : StageNow) (seats seats' : List History) (net net' : NetState) (stage : Stage X) (w : Waiting)
-    → ComesTo d s seats net d' (stage_now stage) seats' net' → TellsMoved s d d' None → Goes d s seats net d' (Moved stage w None) seats' net'
+    → ComesTo d s seats net d' (stage_now stage) seats' net' → TellsMoved s d d' (stage_now stage) None → Goes d s seats net d' (Moved stage w None) seats' net'
 goes_to d d' s seats seats' net net' stage w c told = record { placed = c.placed; keeps = c.keeps; touches = stage_part d d' s stage w seats seats' net net' c.touches; picks = c.picks; routed = c.routed; told = told }
 
 -- a stage after a call that gives, and after a read of the client

@@ -6,11 +6,16 @@ use Rattle.hx_config.specs.declared.parts.Server.{Server}
 use Rattle.hx_conn.specs.Conns.{RestedNow}
 use Rattle.hx_conn.specs.WhatTold as whats
 use Rattle.hx_conn.specs.WhatTold.{what_of_link}
+use Rattle.hx_connecting.specs.Around.{resting}
+use Rattle.hx_connecting.specs.Ways.{HasNoExchange}
 use Rattle.hx_link.specs.Links.{LinkFinishes}
 use Rattle.hx_link.specs.Told.{LinkState}
 use Rattle.hx_message.specs.OwnAnswer.{IsOwnAnswer}
 use Rattle.hx_pool.specs.SeatView.{History}
-use Rattle.hx_record.specs.Truth.{RecountsBytes, LeftBeforeAll}
+use Rattle.hx_message.specs.declared.MethodKind.{MethodKind}
+use Rattle.hx_record.specs.Carriage.{Carriage}
+use Rattle.hx_record.specs.Truth.{RecountsBytes, IsTruePassed, LeftBeforeAll}
+use Rattle.hx_record.specs.declared.served.Carried.{Carried}
 use Rattle.hx_record.specs.declared.served.Kind.{Kind}
 use Rattle.hx_record.specs.declared.served.Kind.TheVariants as kind
 use Rattle.hx_record.specs.declared.served.CutCause.{CutCause}
@@ -26,7 +31,7 @@ use Rattle.hx_session.specs.Desks.{DeskNow, emptied}
 use Rattle.hx_session.specs.Ending.{AnswersOwn, CutsOff}
 use Rattle.hx_session.specs.Exchanged.{ExchangeNow}
 use Rattle.hx_session.specs.Moves.{GivesClient, ReadsClient, with_client}
-use Rattle.hx_session.specs.Over.{IsTold, carried_by, closing_of, served_of, after_record}
+use Rattle.hx_session.specs.Over.{IsTold, IsToldOf, WhereCarried, carried_by, closing_of, served_of, after_record}
 use Rattle.hx_session.specs.Records.{WhereTold, cut_ends, ends_after, no_carriage}
 use Rattle.hx_session.specs.Stages.{StageNow, ChoosingNow, AnsweringNow, Reading, Choosing, Exchanging, Answering, Left, own_stage, stage_now, IsAnswering}
 use Rattle.hx_session.specs.Since.{HasSince}
@@ -43,7 +48,7 @@ pub link_then : (a b c : LinkState) → CarriesSame a b → CarriesSame b c → 
 link_then a b c x y = record { taken = y.taken ∙ x.taken; sent = y.sent ∙ x.sent; ended = y.ended ∙ x.ended }
 
 pub exchange_same : (e : ExchangeNow) → IsSameExchange e e
-exchange_same e = record { server = refl; id = refl; uses = refl; sent_from = refl; taken_from = refl; link = link_same e.busy.link }
+exchange_same e = record { server = refl; id = refl; uses = refl; sent_from = refl; taken_from = refl; method = refl; link = link_same e.busy.link }
 
 pub exchange_then : (e f g : ExchangeNow) → IsSameExchange e f → IsSameExchange f g → IsSameExchange e g
 exchange_then e f g x y = record {
@@ -52,6 +57,7 @@ exchange_then e f g x y = record {
   uses = y.uses ∙ x.uses;
   sent_from = y.sent_from ∙ x.sent_from;
   taken_from = y.taken_from ∙ x.taken_from;
+  method = y.method ∙ x.method;
   link = link_then e.busy.link f.busy.link g.busy.link x.link y.link;
 }
 
@@ -94,18 +100,28 @@ still_then a b c s t u x y = record {
 }
 
 -- what is told of the bytes of two links
-abbrev ToldBy : (ct cs st ss : Option (List ℕ)) (ce se : Bool) → LeftCause → Served → Type 0
-ToldBy ct cs st ss ce se why r = IfSome ct (λ a. IfSome cs (λ b. IfSome st (λ c. IfSome ss (λ x.
-    RecountsBytes r.kind r (carried_by a b ce) (carried_by c x se) why))))
+abbrev ToldBy : (ct cs st ss : Option (List ℕ)) (ce se : Bool) → (Carriage → Carriage → Type 0) → Type 0
+ToldBy ct cs st ss ce se P = IfSome ct (λ a. IfSome cs (λ b. IfSome st (λ c. IfSome ss (λ x. P (carried_by a b ce) (carried_by c x se)))))
+
+carried_back : (a a' b b' : LinkState) (P : Carriage → Carriage → Type 0) → CarriesSame a a' → CarriesSame b b' → WhereCarried a' b' P → WhereCarried a b P
+carried_back a a' b b' P x y t =
+    subst (λ (o : Option (List ℕ)). ToldBy o a.sent b.taken b.sent a.told_end b.told_end P) x.taken
+    (subst (λ (o : Option (List ℕ)). ToldBy a'.taken o b.taken b.sent a.told_end b.told_end P) x.sent
+    (subst (λ (o : Option (List ℕ)). ToldBy a'.taken a'.sent o b.sent a.told_end b.told_end P) y.taken
+    (subst (λ (o : Option (List ℕ)). ToldBy a'.taken a'.sent b'.taken o a.told_end b.told_end P) y.sent
+    (subst (λ (o : Bool). ToldBy a'.taken a'.sent b'.taken b'.sent o b.told_end P) x.ended
+    (subst (λ (o : Bool). ToldBy a'.taken a'.sent b'.taken b'.sent a'.told_end o P) y.ended t)))))
 
 pub told_back : (a a' b b' : LinkState) (why : LeftCause) (r : Served) → CarriesSame a a' → CarriesSame b b' → IsTold a' b' why r → IsTold a b why r
-told_back a a' b b' why r x y t =
-    subst (λ (o : Option (List ℕ)). ToldBy o a.sent b.taken b.sent a.told_end b.told_end why r) x.taken
-    (subst (λ (o : Option (List ℕ)). ToldBy a'.taken o b.taken b.sent a.told_end b.told_end why r) x.sent
-    (subst (λ (o : Option (List ℕ)). ToldBy a'.taken a'.sent o b.sent a.told_end b.told_end why r) y.taken
-    (subst (λ (o : Option (List ℕ)). ToldBy a'.taken a'.sent b'.taken o a.told_end b.told_end why r) y.sent
-    (subst (λ (o : Bool). ToldBy a'.taken a'.sent b'.taken b'.sent o b.told_end why r) x.ended
-    (subst (λ (o : Bool). ToldBy a'.taken a'.sent b'.taken b'.sent a'.told_end o why r) y.ended t)))))
+told_back a a' b b' why r x y t = carried_back a a' b b' (λ v w. RecountsBytes r.kind r v w why) x y t
+
+-- the same of a passed record and its method
+of_back : (a a' b b' : LinkState) (m n : MethodKind) (r : Served) (c : Carried) → n ≡ m → CarriesSame a a' → CarriesSame b b' → IsToldOf a' b' n r c → IsToldOf a b m r c
+of_back a a' b b' m n r c same x y t =
+    carried_back a a' b b' (λ v w. (p : IsTruePassed r c v w) × (p.method ≡ m)) x y (subst (λ (k : MethodKind). IsToldOf a' b' k r c) same t)
+
+pub of_on : (a a' b : LinkState) (m : MethodKind) (r : Served) (c : Carried) → CarriesSame a a' → IsToldOf a b m r c → IsToldOf a' b m r c
+of_on a a' b m r c x t = of_back a' a b b m m r c refl (record { taken = sym x.taken; sent = sym x.sent; ended = sym x.ended }) (link_same b) t
 
 pub told_on : (a a' b : LinkState) (why : LeftCause) (r : Served) → CarriesSame a a' → IsTold a b why r → IsTold a' b why r
 told_on a a' b why r x t = told_back a' a b b why r (record { taken = sym x.taken; sent = sym x.sent; ended = sym x.ended }) (link_same b) t
@@ -132,8 +148,11 @@ of_exchange e f d0 d why r (kind.Passed c) same client h = (
     nth = h.0.nth ∙ ap (λ (n : ℕ). n + 1) same.uses;
     sent = h.0.sent ∙ same.sent_from;
     took = h.0.took ∙ same.taken_from;
+    sent_rises = h.0.sent_rises;
+    took_rises = h.0.took_rises;
   },
   told_back d0.client d.client e.busy.link f.busy.link why r client same.link h.1,
+  of_back d0.client d.client e.busy.link f.busy.link e.busy.exchange.method f.busy.exchange.method r c same.method client same.link h.2,
 )
 of_exchange e f d0 d why r (kind.Cut c w) same client h = (
   record {
@@ -142,6 +161,8 @@ of_exchange e f d0 d why r (kind.Cut c w) same client h = (
     nth = h.0.nth ∙ ap (λ (n : ℕ). n + 1) same.uses;
     sent = h.0.sent ∙ same.sent_from;
     took = h.0.took ∙ same.taken_from;
+    sent_rises = h.0.sent_rises;
+    took_rises = h.0.took_rises;
   },
   told_back d0.client d.client e.busy.link f.busy.link why r client same.link h.1,
 )
@@ -184,19 +205,22 @@ one_then d0 d d' s t r x y = record {
   number = y.number ∙ x.none.number;
   ask = y.ask ∙ x.none.ask_from;
   gave = y.gave ∙ x.none.gave_from;
+  ask_rises = y.ask_rises;
+  gave_rises = y.gave_rises;
   next = y.next ∙ ap (λ (n : ℕ). n + 1) x.none.number;
   asked = y.asked;
   given = y.given;
   client = link_then d0.client d.client d'.client x.client y.client;
 }
 
-moved_then : (d0 d d' : DeskNow) (s t : StageNow) (served : Option Served) → IsStillTold d0 s d t → TellsMoved t d d' served → TellsMoved s d0 d' served
-moved_then d0 d d' s t None x y = none_then d0 d d' x.none y
-moved_then d0 d d' s t (Some r) x y = (
+moved_then : (d0 d d' : DeskNow) (s t u : StageNow) (served : Option Served) → IsStillTold d0 s d t → TellsMoved t d d' u served → TellsMoved s d0 d' u served
+moved_then d0 d d' s t u None x y = none_then d0 d d' x.none y
+moved_then d0 d d' s t u (Some r) x y = (
   one_then d0 d d' s t r x y.0,
   of_stage_then s t d0 d cause.End r r.kind x.stage x.client y.1,
   y.2,
   y.3 ∙ x.none.finished,
+  y.4,
 )
 
 -- nothing of a request was under way before either
@@ -220,7 +244,7 @@ end_then d0 d d' s t (Some r) why x y = (
 -- a part of a step behind parts that did nothing
 pub came_then : {X : Type 0} (d0 d d' : DeskNow) (s t : StageNow) (c : Came X) → IsStillTold d0 s d t → CameTells d t d' c → CameTells d0 s d' c
 came_then d0 d d' s t (On stage w) x y = still_then d0 d d' s t (stage_now stage) x y
-came_then d0 d d' s t (Moved stage w served) x y = moved_then d0 d d' s t served x y
+came_then d0 d d' s t (Moved stage w served) x y = moved_then d0 d d' s t (stage_now stage) served x y
 came_then d0 d d' s t (Ends e) x y = end_then d0 d d' s t e.served e.cause x y
 
 -- what a call of the client's link leaves: nothing was moved, or no record is given
@@ -296,11 +320,11 @@ pub cut_one : (d d1 d2 : DeskNow) (e : ExchangeNow) (w : CutCause) (r : Served) 
 cut_one d d1 d2 e w r k is =
     subst (λ (y : DeskNow). TellsOne d y r) (sym (is ∙ ap emptied k.desk))
     (subst (λ (x : Served). TellsOne d (emptied (record (after_record d k.ask_to) { down = d1.down })) x) (sym k.served)
-    (record { worker = refl; session = refl; number = refl; ask = refl; gave = refl; next = refl; asked = refl; given = refl; client = link_same d.client }))
+    (record { worker = refl; session = refl; number = refl; ask = refl; gave = refl; ask_rises = k.rises.ask; gave_rises = k.rises.gave; next = refl; asked = refl; given = refl; client = link_same d.client }))
 
 pub cut_of : (d d1 : DeskNow) (e : ExchangeNow) (w : CutCause) (r : Served) (why : LeftCause) → CutsOff d d1 e w r → IsOfStage (Exchanging e) d why r r.kind
 cut_of d d1 e w r why k =
-    subst (λ (x : Kind). IsOfStage (Exchanging e) d why r x) (sym (ap (λ (x : Served). x.kind) k.served)) (record { server = refl; id = refl; nth = refl; sent = refl; took = refl }, k.told why)
+    subst (λ (x : Kind). IsOfStage (Exchanging e) d why r x) (sym (ap (λ (x : Served). x.kind) k.served)) (record { server = refl; id = refl; nth = refl; sent = refl; took = refl; sent_rises = k.rises.sent; took_rises = k.rises.took }, k.told why)
 
 cut_finished : (d d1 d2 : DeskNow) (e : ExchangeNow) (w : CutCause) (r : Served) → CutsOff d d1 e w r → d2 ≡ emptied d1 → d2.client.finished ≡ d.client.finished
 cut_finished d d1 d2 e w r k is = ap (λ (x : DeskNow). x.client.finished) (is ∙ ap emptied k.desk)
@@ -361,10 +385,14 @@ own_finish d why f leaves = ⊎_elim (λ l. subst (λ (w : LeftCause). f ≡ fin
 own_desk : (d d1 d2 : DeskNow) → d1 ≡ after_record d d.taken → d2 ≡ emptied d1 → d2 ≡ emptied (after_record d d.taken)
 own_desk d d1 d2 first last = last ∙ ap emptied first
 
-own_one : (d d2 : DeskNow) (status : ℕ) (r : Served) → r ≡ served_of d (kind.Own status) d.taken → d2 ≡ emptied (after_record d d.taken) → TellsOne d d2 r
-own_one d d2 status r is desk =
+-- the ranges of an own answer's record
+pub own_gave : (d : DeskNow) (status : ℕ) → IsAnswering d status → d.gave_from ≤ d.given
+own_gave d status a = omega (arith, a.desk.given, a.gives.count)
+
+own_one : (d d2 : DeskNow) (status : ℕ) (r : Served) → IsAnswering d status → r ≡ served_of d (kind.Own status) d.taken → d2 ≡ emptied (after_record d d.taken) → TellsOne d d2 r
+own_one d d2 status r a is desk =
     subst (λ (y : DeskNow). TellsOne d y r) (sym desk) (subst (λ (x : Served). TellsOne d (emptied (after_record d d.taken)) x) (sym is)
-    (record { worker = refl; session = refl; number = refl; ask = refl; gave = refl; next = refl; asked = refl; given = refl; client = link_same d.client }))
+    (record { worker = refl; session = refl; number = refl; ask = refl; gave = refl; ask_rises = a.ordered; gave_rises = own_gave d status a; next = refl; asked = refl; given = refl; client = link_same d.client }))
 
 pub own_of : (d : DeskNow) (status : ℕ) (held : Option RestedNow) (r : Served) (why : LeftCause) → IsAnswering d status → LeavesOwn d why → r ≡ served_of d (kind.Own status) d.taken
     → IsOfStage (own_stage status held) d why r r.kind
@@ -374,7 +402,7 @@ pub own_told : (d d1 d2 : DeskNow) (status : ℕ) (held : Option RestedNow) (r :
     → d1 ≡ after_record d d.taken → d2 ≡ emptied d1 → TellsEnd (own_stage status held) d d2 (Some r) why
 own_told d d1 d2 status held r why going a leaves is first last =
     let desk = own_desk d d1 d2 first last in (
-      own_one d d2 status r is desk,
+      own_one d d2 status r a is desk,
       own_of d status held r why a leaves is,
       subst (λ (x : Served). LeavesWith (ends_after x.kind) why) (sym is) (own_with d why leaves),
       ap (λ (x : DeskNow). x.client.finished) desk ∙ own_finish d why d.client.finished leaves,
@@ -392,6 +420,8 @@ passed_one d d1 l e r p same =
       number = ap (λ (x : Served). x.number) is;
       ask = ap (λ (x : Served). x.ask.from) is;
       gave = ap (λ (x : Served). x.gave.from) is;
+      ask_rises = subst (λ (x : Served). x.ask.from ≤ x.ask.to) (sym is) p.rises.ask;
+      gave_rises = subst (λ (x : Served). x.gave.from ≤ x.gave.to) (sym is) p.rises.gave;
       next = g.number;
       asked = g.asked ∙ sym (ap (λ (x : Served). x.ask.to) is);
       given = g.given ∙ sym (ap (λ (x : Served). x.gave.to) is);
@@ -401,18 +431,23 @@ passed_one d d1 l e r p same =
 passed_of : (d d1 : DeskNow) (e : ExchangeNow) (r : Served) (why : LeftCause) → GivesPassed d d1 e r → IsTold d.client e.busy.link why r → IsOfStage (Exchanging e) d why r r.kind
 passed_of d d1 e r why p told =
     subst (λ (k : Kind). IsOfStage (Exchanging e) d why r k) (sym (ap (λ (x : Served). x.kind) p.gives.served))
-    (record { server = refl; id = refl; nth = refl; sent = refl; took = refl }, told)
+    (record { server = refl; id = refl; nth = refl; sent = refl; took = refl; sent_rises = p.rises.sent; took_rises = p.rises.took }, told, p.method)
 
 passed_ends : (d d1 : DeskNow) (e : ExchangeNow) (r : Served) (closing : Bool) → GivesPassed d d1 e r → closing ≡ closing_of e.answer → ends_after r.kind ≡ (if closing then Some cause.Closing else None)
 passed_ends d d1 e r closing p is = ap (λ (x : Served). ends_after x.kind) p.gives.served ∙ ap (λ (b : Bool). if b then Some cause.Closing else None) (sym is)
 
-pub passed_moves : (d d1 : DeskNow) (e : ExchangeNow) (r : Served) (closing : Bool) → closing ≡ false → closing ≡ closing_of e.answer → GivesPassed d d1 e r → IsTold d.client e.busy.link cause.End r
-    → TellsMoved (Exchanging e) d d1 (Some r)
-passed_moves d d1 e r closing open_ is p told = (
+no_exchange : (held : Option RestedNow) → HasNoExchange (resting held)
+no_exchange None = tt
+no_exchange (Some r) = tt
+
+pub passed_moves : (d d1 : DeskNow) (e : ExchangeNow) (held : Option RestedNow) (r : Served) (closing : Bool) → closing ≡ false → closing ≡ closing_of e.answer → GivesPassed d d1 e r → IsTold d.client e.busy.link cause.End r
+    → TellsMoved (Exchanging e) d d1 (Reading held) (Some r)
+passed_moves d d1 e held r closing open_ is p told = (
   passed_one d d1 d1.client e r p (link_same d1.client),
   passed_of d d1 e r cause.End p told,
   passed_ends d d1 e r closing p is ∙ ap (λ (b : Bool). if b then Some cause.Closing else None) open_,
   ap (λ (l : LinkState). l.finished) p.client,
+  no_exchange held,
 )
 
 pub passed_closes : (d d1 : DeskNow) (l : LinkState) (e : ExchangeNow) (r : Served) (closing : Bool) → closing ≡ true → closing ≡ closing_of e.answer → GivesPassed d d1 e r
@@ -449,6 +484,8 @@ end_detached s d0 d d' (Some r) why is same finished t = (
     number = t.0.number;
     ask = t.0.ask;
     gave = t.0.gave;
+    ask_rises = t.0.ask_rises;
+    gave_rises = t.0.gave_rises;
     next = ap (λ (x : DeskNow). x.number) is ∙ t.0.next;
     asked = ap (λ (x : DeskNow). x.ask_from) is ∙ t.0.asked;
     given = ap (λ (x : DeskNow). x.gave_from) is ∙ t.0.given;

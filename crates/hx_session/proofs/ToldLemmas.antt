@@ -1,11 +1,16 @@
 -- What a worker learns of the records and the end that a step or a stop gives.
 use Rattle.std.proofs.Common.{◌≡◌, ◌≤◌, ◌-◌, ℕ, false, List, refl, sym, ap, subst, ◌∙◌, inl, inr, arith, Option, Some, None}
 use Rattle.std.specs.Prelude.{IfSome}
-use Rattle.hx_conn.specs.Conns.{RestedNow}
+use Rattle.hx_conn.specs.Conns.{RestedNow, BusyNow}
+use Rattle.hx_conn.specs.WhatTold.{what_of_link}
 use Rattle.hx_connecting.specs.Around.{resting}
-use Rattle.hx_connecting.specs.Sessions.{SessionNow}
+use Rattle.hx_connecting.specs.Sessions.{SessionNow, Exchanging as OnConn}
+use Rattle.hx_connecting.specs.Ways.{HasNoExchange}
 use Rattle.hx_link.specs.Told.{LinkState}
 use Rattle.hx_pool.specs.SeatView.{History}
+use Rattle.hx_message.specs.declared.MethodKind.{MethodKind}
+use Rattle.hx_record.specs.Truth.{IsTruePassed}
+use Rattle.hx_record.specs.declared.served.Carried.{Carried}
 use Rattle.hx_record.specs.declared.served.Kind.{Kind}
 use Rattle.hx_record.specs.declared.served.Kind.TheVariants as kind
 use Rattle.hx_record.specs.declared.served.Left.{Left as Leave}
@@ -15,15 +20,15 @@ use Rattle.hx_record.specs.declared.served.Served.{Served}
 use Rattle.hx_session.specs.declared.step.Waits.{Waits}
 use Rattle.hx_session.specs.Desks.{DeskNow}
 use Rattle.hx_session.specs.Moves.{with_client}
-use Rattle.hx_session.specs.Over.{IsTold, left_of, served_of, after_record}
-use Rattle.hx_session.specs.Records.{EndsSession, Leaves, LeftStands, cut_ends, ends_after, leaves_for}
+use Rattle.hx_session.specs.Over.{IsTold, IsToldOf, left_of, served_of, after_record}
+use Rattle.hx_session.specs.Records.{EndsSession, IsOfMethod, WhereTold, told_of, Leaves, LeftStands, cut_ends, ends_after, leaves_for}
 use Rattle.hx_session.specs.Seen.{conn_seen, over_seen, own_seen, session_seen}
 use Rattle.hx_session.specs.Stages.{StageNow, Reading, Choosing, Exchanging, Answering, Left, IsAnswering, own_stage}
 use Rattle.hx_session.specs.Standing.{IsDone, IsGone, IsSound}
 use Rattle.hx_session.specs.Stopping.{ServesAtStop, StopsKind}
 use Rattle.hx_session.specs.Telling.{CarriesSame, TellsOne, IsToldOwn, IsOfStage, LeavesWith, DoneTells, StopsStage, StopTells, KindTold, RecordTold, RecordsTold, conn_told, LeavesWithout, StepTold, StopTold, finished_by, stopped}
-use Rattle.hx_session.proofs.RecordLemmas.{told_stands}
-use Rattle.hx_session.proofs.TellLemmas.{link_same, link_then, own_of, told_on, own_on, plain_finish, reading_none, choosing_none, left_none}
+use Rattle.hx_session.proofs.RecordLemmas.{by_options, told_stands}
+use Rattle.hx_session.proofs.TellLemmas.{link_same, link_then, own_gave, own_of, told_on, of_on, own_on, plain_finish, reading_none, choosing_none, left_none}
 
 -- a session that goes on counts from 1
 pub sound_one : (d : DeskNow) (s : StageNow) → IsSound d s → over_seen s ≡ false → 1 ≤ d.number
@@ -55,16 +60,40 @@ kind_told front d d' (Answering a) s' why r (kind.Own status) is same h own = (
 )
 kind_told front d d' Left s' why r k is same h own = absurd (left_none d why r k h)
 
+-- a passed record is of a request of its exchange's method
+some_busy : (a b : BusyNow) → Some (OnConn a) ≡ Some (OnConn b) → a.exchange.method ≡ b.exchange.method
+some_busy a b e = cc
+
+of_stands : (client link : LinkState) (m : MethodKind) (r : Served) (c : Carried) → IsToldOf client link m r c
+    → WhereTold (what_of_link client).told (λ x. WhereTold (told_of (Some (what_of_link link))) (λ y. (p : IsTruePassed r c x y) × (p.method ≡ m)))
+of_stands client link m r c t = by_options (λ x y. (p : IsTruePassed r c x y) × (p.method ≡ m)) client.taken client.sent link.taken link.sent client.told_end link.told_end t
+
+method_told : (front : ℕ) (d d' : DeskNow) (s : StageNow) (why : LeftCause) (r : Served) (k : Kind) → CarriesSame d.client d'.client → IsOfStage s d why r k
+    → IsOfMethod (session_seen front d s) d'.client (conn_told (conn_seen s)) r k
+method_told front d d' s why r (kind.Cut c w) same h = tt
+method_told front d d' s why r (kind.Own status) same h = tt
+method_told front d d' (Reading held) why r (kind.Passed c) same h = absurd h
+method_told front d d' (Choosing x) why r (kind.Passed c) same h = absurd h
+method_told front d d' (Answering a) why r (kind.Passed c) same h = absurd h
+method_told front d d' Left why r (kind.Passed c) same h = absurd h
+method_told front d d' (Exchanging e) why r (kind.Passed c) same h = λ b is.
+    of_stands d'.client e.busy.link b.exchange.method r c
+    (subst (λ (m : MethodKind). IsToldOf d'.client e.busy.link m r c) (some_busy e.busy b is) (of_on d.client d'.client e.busy.link e.busy.exchange.method r c same h.2))
+
 -- the record as the worker sees it
 record_told : (front : ℕ) (d d' : DeskNow) (s s' : StageNow) (left : Option Leave) (r : Served) → 1 ≤ d.number → TellsOne d d' r → IsOfStage s d (leaves_for left) r r.kind
-    → ((status : ℕ) → r.kind ≡ kind.Own status → own_seen s' ≡ None) → EndsSession (ends_after r.kind) left → RecordTold (session_seen front d s) (session_seen front d' s') (conn_told (conn_seen s)) left r
-record_told front d d' s s' left r some one of own ends = record {
+    → ((status : ℕ) → r.kind ≡ kind.Own status → own_seen s' ≡ None) → HasNoExchange (conn_seen s') → EndsSession (ends_after r.kind) left → RecordTold (session_seen front d s) (session_seen front d' s') (conn_told (conn_seen s)) left r
+record_told front d d' s s' left r some one of own over ends = record {
   worker = one.worker;
   session = one.session;
   number = one.number ∙ omega (arith, some);
   ask = one.ask;
   gave = one.gave;
+  ask_rises = one.ask_rises;
+  gave_rises = one.gave_rises;
   kind = kind_told front d d' s (session_seen front d' s') (leaves_for left) r r.kind refl one.client of own;
+  method = method_told front d d' s (leaves_for left) r r.kind one.client of;
+  over = over;
   served = omega (arith, one.next, some);
   asked = one.asked;
   given = one.given;
@@ -82,25 +111,26 @@ ends_by : (o : Option LeftCause) (l : Leave) → LeavesWith o l.cause → EndsSe
 ends_by None l x = absurd x
 ends_by (Some w) l x = (l, refl, x)
 
-records_told : (front : ℕ) (d d' : DeskNow) (s s' : StageNow) (served : Option Served) (left : Option Leave) → 1 ≤ d.number → DoneTells d s d' served left
-    → ((l : Leave) → left ≡ Some l → own_seen s' ≡ None) → RecordsTold (session_seen front d s) (session_seen front d' s') (conn_told (conn_seen s)) left served
-records_told front d d' s s' None None some t own = record { served = ap (λ (n : ℕ). n - 1) t.number; asked = t.ask_from; given = t.gave_from }
-records_told front d d' s s' None (Some l) some t own = record { served = ap (λ (n : ℕ). n - 1) t.0.number; asked = t.0.ask_from; given = t.0.gave_from }
-records_told front d d' s s' (Some r) None some t own =
-    record_told front d d' s s' None r some t.0 t.1 (λ status is. absurd (goes_on_kind r.kind status t.2 is)) (subst (λ (o : Option LeftCause). EndsSession o None) (sym t.2) refl)
-records_told front d d' s s' (Some r) (Some l) some t own = record_told front d d' s s' (Some l) r some t.0 t.1 (λ status is. own l refl) (ends_by (ends_after r.kind) l t.2)
+records_told : (front : ℕ) (d d' : DeskNow) (s s' : StageNow) (served : Option Served) (left : Option Leave) → 1 ≤ d.number → DoneTells d s d' s' served left
+    → ((l : Leave) → left ≡ Some l → own_seen s' ≡ None) → ((l : Leave) → left ≡ Some l → conn_seen s' ≡ None) → RecordsTold (session_seen front d s) (session_seen front d' s') (conn_told (conn_seen s)) left served
+records_told front d d' s s' None None some t own conn = record { served = ap (λ (n : ℕ). n - 1) t.number; asked = t.ask_from; given = t.gave_from }
+records_told front d d' s s' None (Some l) some t own conn = record { served = ap (λ (n : ℕ). n - 1) t.0.number; asked = t.0.ask_from; given = t.0.gave_from }
+records_told front d d' s s' (Some r) None some t own conn =
+    record_told front d d' s s' None r some t.0 t.1 (λ status is. absurd (goes_on_kind r.kind status t.2 is)) t.4 (subst (λ (o : Option LeftCause). EndsSession o None) (sym t.2) refl)
+records_told front d d' s s' (Some r) (Some l) some t own conn =
+    record_told front d d' s s' (Some l) r some t.0 t.1 (λ status is. own l refl) (subst HasNoExchange (sym (conn l refl)) tt) (ends_by (ends_after r.kind) l t.2)
 
-without_told : (d d' : DeskNow) (s : StageNow) (served : Option Served) (left : Option Leave) → DoneTells d s d' served left → LeavesWithout served left
-without_told d d' s None None t = tt
-without_told d d' s None (Some l) t = t.1
-without_told d d' s (Some r) None t = tt
-without_told d d' s (Some r) (Some l) t = tt
+without_told : (d d' : DeskNow) (s s' : StageNow) (served : Option Served) (left : Option Leave) → DoneTells d s d' s' served left → LeavesWithout served left
+without_told d d' s s' None None t = tt
+without_told d d' s s' None (Some l) t = t.1
+without_told d d' s s' (Some r) None t = tt
+without_told d d' s s' (Some r) (Some l) t = tt
 
-finished_told : (d d' : DeskNow) (s : StageNow) (served : Option Served) (left : Option Leave) → DoneTells d s d' served left → d'.client.finished ≡ finished_by left d.client.finished
-finished_told d d' s None None t = t.finished
-finished_told d d' s None (Some l) t = t.0.finished ∙ plain_finish l.cause d.client.finished t.1
-finished_told d d' s (Some r) None t = t.3
-finished_told d d' s (Some r) (Some l) t = t.3
+finished_told : (d d' : DeskNow) (s s' : StageNow) (served : Option Served) (left : Option Leave) → DoneTells d s d' s' served left → d'.client.finished ≡ finished_by left d.client.finished
+finished_told d d' s s' None None t = t.finished
+finished_told d d' s s' None (Some l) t = t.0.finished ∙ plain_finish l.cause d.client.finished t.1
+finished_told d d' s s' (Some r) None t = t.3
+finished_told d d' s s' (Some r) (Some l) t = t.3
 
 -- the session's end
 left_stands : (front : ℕ) (d : DeskNow) (seats : List History) (why : LeftCause) → IsGone d seats → LeftStands (session_seen front d Left) (left_of d why)
@@ -108,6 +138,7 @@ left_stands front d seats why gone = record {
   worker = refl;
   session = refl;
   from = refl;
+  rises = gone.ordered;
   to = gone.tallied.taken;
   gave = gone.told ∙ gone.tallied.given;
   over = refl;
@@ -134,13 +165,20 @@ done_own d (Choosing c) seats w left k l e = refl
 done_own d (Exchanging x) seats w left k l e = refl
 done_own d (Answering a) seats w left k l e = absurd (some_left left l k.2 e)
 
-pub step_told : (front : ℕ) (d d' : DeskNow) (s s' : StageNow) (seats : List History) (w : Waits) (served : Option Served) (left : Option Leave) → 1 ≤ d.number → DoneTells d s d' served left
+done_conn : (d : DeskNow) (s : StageNow) (seats : List History) (w : Waits) (left : Option Leave) → IsDone d s seats w left → (l : Leave) → left ≡ Some l → conn_seen s ≡ None
+done_conn d Left seats w left k l e = refl
+done_conn d (Reading held) seats w left k l e = absurd (some_left left l k.2 e)
+done_conn d (Choosing c) seats w left k l e = absurd (some_left left l k.2 e)
+done_conn d (Exchanging x) seats w left k l e = absurd (some_left left l k.2 e)
+done_conn d (Answering a) seats w left k l e = absurd (some_left left l k.2 e)
+
+pub step_told : (front : ℕ) (d d' : DeskNow) (s s' : StageNow) (seats : List History) (w : Waits) (served : Option Served) (left : Option Leave) → 1 ≤ d.number → DoneTells d s d' s' served left
     → IsDone d' s' seats w left → StepTold (session_seen front d s) (session_seen front d' s') left served
 step_told front d d' s s' seats w served left some t done = record {
-  records = records_told front d d' s s' served left some t (done_own d' s' seats w left done);
+  records = records_told front d d' s s' served left some t (done_own d' s' seats w left done) (done_conn d' s' seats w left done);
   leaves = done_leaves front d' s' seats w left done;
-  without = without_told d d' s served left t;
-  finished = finished_told d d' s served left t;
+  without = without_told d d' s s' served left t;
+  finished = finished_told d d' s s' served left t;
 }
 
 -- what a stop gives
@@ -165,7 +203,7 @@ pub stop_own : (d d1 : DeskNow) (status : ℕ) (held : Option RestedNow) (r : Se
     → StopTells (own_stage status held) d d1 (Some r)
 stop_own d d1 status held r a is next = (
   subst (λ (y : DeskNow). TellsOne d y r) (sym next) (subst (λ (x : Served). TellsOne d (after_record d d.taken) x) (sym is)
-      (record { worker = refl; session = refl; number = refl; ask = refl; gave = refl; next = refl; asked = refl; given = refl; client = link_same d.client })),
+      (record { worker = refl; session = refl; number = refl; ask = refl; gave = refl; ask_rises = a.ordered; gave_rises = own_gave d status a; next = refl; asked = refl; given = refl; client = link_same d.client })),
   own_of d status held r cause.Stop a (inr (inr (inr refl))) is,
   subst (λ (x : Served). StopsStage (own_stage status held) x.kind) (sym is) tt,
   ap (λ (x : DeskNow). x.client.finished) next,
@@ -179,8 +217,12 @@ stop_record front d d1 d' s r left some stop same t = record {
   number = t.0.number ∙ omega (arith, some);
   ask = t.0.ask;
   gave = t.0.gave;
+  ask_rises = t.0.ask_rises;
+  gave_rises = t.0.gave_rises;
   kind = kind_told front d d' s (stopped (session_seen front d s) d'.client (Some r)) left.cause r r.kind refl (link_then d.client d1.client d'.client t.0.client same)
       (subst (λ (w : LeftCause). IsOfStage s d w r r.kind) (sym stop) t.1) (λ status is. refl);
+  method = method_told front d d' s cause.Stop r r.kind (link_then d.client d1.client d'.client t.0.client same) t.1;
+  over = tt;
   served = refl;
   asked = refl;
   given = refl;
@@ -210,6 +252,7 @@ stop_leaves front d d1 d' s seats None left a t =
       worker = ap (λ (l : Leave). l.worker) a.end ∙ a.who.0;
       session = ap (λ (l : Leave). l.session) a.end ∙ a.who.1;
       from = ap (λ (l : Leave). l.ask.from) a.end ∙ ask;
+      rises = subst (λ (l : Leave). l.ask.from ≤ l.ask.to) (sym a.end) a.gone.ordered;
       to = ap (λ (l : Leave). l.ask.to) a.end ∙ a.gone.tallied.taken;
       gave = sym gave ∙ (a.gone.told ∙ a.gone.tallied.given);
       over = refl;
@@ -222,6 +265,7 @@ stop_leaves front d d1 d' s seats (Some r) left a t =
       worker = ap (λ (l : Leave). l.worker) a.end ∙ a.who.0;
       session = ap (λ (l : Leave). l.session) a.end ∙ a.who.1;
       from = ap (λ (l : Leave). l.ask.from) a.end ∙ ask;
+      rises = subst (λ (l : Leave). l.ask.from ≤ l.ask.to) (sym a.end) a.gone.ordered;
       to = ap (λ (l : Leave). l.ask.to) a.end ∙ a.gone.tallied.taken;
       gave = sym gave ∙ (a.gone.told ∙ a.gone.tallied.given);
       over = refl;

@@ -16,7 +16,7 @@ use Rattle.hx_message.specs.OwnAnswer.{HasReason, IsOwnAnswer}
 use Rattle.hx_session.specs.Since.{HasSince}
 use Rattle.hx_session.specs.Desks.{DeskNow, emptied}
 use Rattle.hx_session.specs.Exchanged.{ExchangeNow}
-use Rattle.hx_session.specs.Over.{served_of, carried_of, after_record, early_of, IsTold}
+use Rattle.hx_session.specs.Over.{served_of, carried_of, after_record, early_of, IsTold, RangesRise}
 use Rattle.hx_session.specs.Finishing.{IsAnswerGiven}
 use Rattle.hx_session.specs.Stages.{StageNow, Reading, Choosing, Exchanging, Answering, Left}
 
@@ -52,6 +52,7 @@ pub record CutsOff (old new : DeskNow) (e : ExchangeNow) (why : CutCause) (s : S
   pub took_to : ℕ
   pub ask_to : ℕ
   pub within : ask_to ≤ old.taken
+  pub rises : RangesRise old e took_to ask_to
   pub served : s ≡ served_of old (Cut (carried_of e took_to) why) ask_to
   pub told : (leaves : LeftCause) → IsTold old.client e.busy.link leaves s
   pub desk : new ≡ record (after_record old ask_to) { down = new.down }

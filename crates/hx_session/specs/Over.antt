@@ -1,9 +1,10 @@
 -- An answer that is over, and what its record tells.
-use Rattle.std.specs.Prelude.{◌≡◌, ◌⊎◌, ℕ, ◌+◌, Bool, true, false, List, [], IfSome}
+use Rattle.std.specs.Prelude.{◌≡◌, ◌⊎◌, ℕ, ◌+◌, ◌≤◌, Bool, true, false, List, [], IfSome}
 use Rattle.hx_frame.specs.declared.progress.MeterState.TheVariants.{Done}
 use Rattle.hx_link.specs.Told.{LinkState}
 use Rattle.hx_record.specs.Carriage.{Carriage}
-use Rattle.hx_record.specs.Truth.{RecountsBytes}
+use Rattle.hx_message.specs.declared.MethodKind.{MethodKind}
+use Rattle.hx_record.specs.Truth.{RecountsBytes, IsTruePassed}
 use Rattle.hx_record.specs.declared.served.Served.{Served}
 use Rattle.hx_record.specs.declared.served.Left.{Left}
 use Rattle.hx_record.specs.declared.served.LeftCause.{LeftCause}
@@ -36,6 +37,10 @@ WhereCarried c s P =
 -- the record is true of what the client's link and the connection's link carried
 abbrev pub IsTold : LinkState → LinkState → LeftCause → Served → Type 0
 IsTold client conn why s = WhereCarried client conn (λ c t. RecountsBytes s.kind s c t why)
+
+-- a passed record is true of them, of a request of that method
+abbrev pub IsToldOf : LinkState → LinkState → MethodKind → Served → Carried → Type 0
+IsToldOf client conn m s c = WhereCarried client conn (λ x y. (p : IsTruePassed s c x y) × (p.method ≡ m))
 
 abbrev pub span : ℕ → ℕ → Span
 span from to = record { from = from; to = to }
@@ -71,6 +76,13 @@ served_of d kind ask_to = record {
   gave = span d.gave_from d.given;
   kind = kind;
 }
+
+-- the ranges of an exchange's record up to those bytes of the connection and of the client end no earlier than they begin
+pub record RangesRise (d : DeskNow) (e : ExchangeNow) (took_to ask_to : ℕ) : Type 0 where
+  pub ask : d.ask_from ≤ ask_to
+  pub gave : d.gave_from ≤ d.given
+  pub sent : e.busy.exchange.sent_from ≤ e.busy.link.sent_count
+  pub took : e.busy.exchange.taken_from ≤ took_to
 
 -- the next record begins behind it
 abbrev pub after_record : DeskNow → ℕ → DeskNow

@@ -1,6 +1,6 @@
 -- What a step tells: the record of a request that is over, the session's end, and to its client's link that nothing more is
 -- written behind a closing answer.
-use Rattle.std.specs.Prelude.{◌≡◌, ◌⊎◌, ℕ, ◌+◌, Bool, true, false, [], Option, Some, None, IfSome, ⊤}
+use Rattle.std.specs.Prelude.{◌≡◌, ◌⊎◌, ℕ, ◌+◌, ◌≤◌, Bool, true, false, [], Option, Some, None, IfSome, ⊤}
 use Rattle.hx_base.specs.declared.what.What.{What}
 use Rattle.hx_conn.specs.WhatTold.{what_of_link}
 use Rattle.hx_link.specs.Told.{LinkState}
@@ -13,15 +13,16 @@ use Rattle.hx_record.specs.declared.served.LeftCause.{LeftCause}
 use Rattle.hx_record.specs.declared.served.LeftCause.TheVariants as cause
 use Rattle.hx_record.specs.declared.served.Served.{Served}
 use Rattle.hx_connecting.specs.Sessions.{SessionNow, Holding, conn_link}
+use Rattle.hx_connecting.specs.Ways.{HasNoExchange}
 use Rattle.hx_session.specs.declared.moves.Move.{Move}
 use Rattle.hx_session.specs.declared.moves.Move.TheVariants.{Idle, Bytes, Waits, Ended, Failed}
 use Rattle.hx_session.specs.declared.stage.Came.{Came}
 use Rattle.hx_session.specs.declared.stage.Came.TheVariants.{On, Moved, Ends}
 use Rattle.hx_session.specs.Desks.{DeskNow}
 use Rattle.hx_session.specs.Exchanged.{ExchangeNow}
-use Rattle.hx_session.specs.Over.{IsTold, carried_of, closing_of}
-use Rattle.hx_session.specs.Records.{IsOfExchange, NoRecord, EndsSession, KindStands, Leaves, LeftStands, WhereTold, ends_after, leaves_for, no_carriage}
-use Rattle.hx_session.specs.Seen.{GivesRecord}
+use Rattle.hx_session.specs.Over.{IsTold, IsToldOf, RangesRise, carried_of, closing_of}
+use Rattle.hx_session.specs.Records.{IsOfExchange, IsOfMethod, NoRecord, EndsSession, KindStands, Leaves, LeftStands, WhereTold, ends_after, leaves_for, no_carriage}
+use Rattle.hx_session.specs.Seen.{GivesRecord, conn_seen}
 use Rattle.hx_session.specs.Stages.{StageNow, ChoosingNow, Reading, Choosing, Exchanging, Answering, Left, stage_now}
 use Rattle.hx_session.specs.Stopping.{ServesAtStop, StopsKind}
 
@@ -38,6 +39,7 @@ pub record IsSameExchange (e f : ExchangeNow) : Type 0 where
   pub uses : f.busy.uses ≡ e.busy.uses
   pub sent_from : f.busy.exchange.sent_from ≡ e.busy.exchange.sent_from
   pub taken_from : f.busy.exchange.taken_from ≡ e.busy.exchange.taken_from
+  pub method : f.busy.exchange.method ≡ e.busy.exchange.method
   pub link : CarriesSame e.busy.link f.busy.link
 
 -- the stage of a step that did nothing yet but choose a server
@@ -70,14 +72,16 @@ MoveTells Failed d e d' e' = IsStillTold d (Exchanging e) d' (Exchanging e')
 MoveTells Bytes d e d' e' = TellsNone d d'
 MoveTells Ended d e d' e' = TellsNone d d'
 
--- a record of the request that was read or carried: it has its number, it begins where the record before ended, and the next one
--- begins where it ends; with it no byte is moved on the client's link
+-- a record of the request that was read or carried: it has its number, it begins where the record before ended, its ranges end no
+-- earlier than they begin, and the next one begins where it ends; with it no byte is moved on the client's link
 pub record TellsOne (d d' : DeskNow) (r : Served) : Type 0 where
   pub worker : r.worker ≡ d.worker
   pub session : r.session ≡ d.session
   pub number : r.number ≡ d.number
   pub ask : r.ask.from ≡ d.ask_from
   pub gave : r.gave.from ≡ d.gave_from
+  pub ask_rises : r.ask.from ≤ r.ask.to
+  pub gave_rises : r.gave.from ≤ r.gave.to
   pub next : d'.number ≡ d.number + 1
   pub asked : d'.ask_from ≡ r.ask.to
   pub given : d'.gave_from ≡ r.gave.to
@@ -87,9 +91,10 @@ pub record TellsOne (d d' : DeskNow) (r : Served) : Type 0 where
 abbrev pub IsToldOwn : LinkState → LeftCause → Served → Type 0
 IsToldOwn client why r = WhereTold (what_of_link client).told (λ x. RecountsBytes r.kind r x no_carriage why)
 
--- at which stage a record of each kind is given, and that it is true there
+-- at which stage a record of each kind is given, and that it is true there, a passed one of a request of its exchange's method
 abbrev pub IsOfStage : StageNow → DeskNow → LeftCause → Served → Kind → Type 0
-IsOfStage (Exchanging e) d why r (kind.Passed c) = IsOfExchange e.busy c × IsTold d.client e.busy.link why r
+IsOfStage (Exchanging e) d why r (kind.Passed c) =
+    IsOfExchange e.busy c × IsTold d.client e.busy.link why r × IsToldOf d.client e.busy.link e.busy.exchange.method r c
 IsOfStage (Exchanging e) d why r (kind.Cut c w) = IsOfExchange e.busy c × IsTold d.client e.busy.link why r
 IsOfStage (Answering a) d why r (kind.Own status) = (status ≡ a.status) × IsToldOwn d.client why r
 IsOfStage s d why r k = ⊥
@@ -117,11 +122,12 @@ abbrev pub finished_by : Option Leave → Bool → Bool
 finished_by None before = before
 finished_by (Some l) before = finished_for l.cause before
 
--- a part after which the session goes on
-abbrev pub TellsMoved : StageNow → DeskNow → DeskNow → Option Served → Type 0
-TellsMoved s d d' None = TellsNone d d'
-TellsMoved s d d' (Some r) =
+-- a part after which the session goes on, at a stage without an exchange where a record is given
+abbrev pub TellsMoved : StageNow → DeskNow → DeskNow → StageNow → Option Served → Type 0
+TellsMoved s d d' t None = TellsNone d d'
+TellsMoved s d d' t (Some r) =
     TellsOne d d' r × IsOfStage s d cause.End r r.kind × (ends_after r.kind ≡ None) × (d'.client.finished ≡ d.client.finished)
+    × HasNoExchange (conn_seen t)
 
 -- where nothing of a request is under way
 abbrev pub HasNoRequest : StageNow → Type 0
@@ -139,13 +145,13 @@ TellsEnd s d d' (Some r) why =
 -- what a part of a step told
 abbrev pub CameTells : {X : Type 0} → DeskNow → StageNow → DeskNow → Came X → Type 0
 CameTells d s d' (On stage w) = IsStillTold d s d' (stage_now stage)
-CameTells d s d' (Moved stage w served) = TellsMoved s d d' served
+CameTells d s d' (Moved stage w served) = TellsMoved s d d' (stage_now stage) served
 CameTells d s d' (Ends e) = TellsEnd s d d' e.served e.cause
 
 -- what a step told
-abbrev pub DoneTells : DeskNow → StageNow → DeskNow → Option Served → Option Leave → Type 0
-DoneTells d s d' served None = TellsMoved s d d' served
-DoneTells d s d' served (Some l) = TellsEnd s d d' served l.cause
+abbrev pub DoneTells : DeskNow → StageNow → DeskNow → StageNow → Option Served → Option Leave → Type 0
+DoneTells d s d' s' served None = TellsMoved s d d' s' served
+DoneTells d s d' s' served (Some l) = TellsEnd s d d' served l.cause
 
 -- what a stop makes of each stage: of an exchange a cut one, which is closing where its final head went out so
 abbrev pub StopsStage : StageNow → Kind → Type 0
@@ -164,6 +170,8 @@ pub record GivesPassed (d d' : DeskNow) (e : ExchangeNow) (r : Served) : Type 0 
   pub took_to : ℕ
   pub counted : took_to ≡ e.busy.exchange.taken_from + e.answered
   pub gives : GivesRecord d d' (kind.Passed (carried_of e took_to)) r
+  pub rises : RangesRise d e took_to gives.to
+  pub method : IsToldOf d.client e.busy.link e.busy.exchange.method r (carried_of e took_to)
   pub client : d'.client ≡ d.client
 
 -- what the link of the session's connection tells
@@ -183,7 +191,12 @@ pub record RecordTold (s s' : SessionNow) (conn : Option What) (left : Option Le
   pub number : r.number ≡ s.served + 1
   pub ask : r.ask.from ≡ s.asked
   pub gave : r.gave.from ≡ s.gave
+  pub ask_rises : r.ask.from ≤ r.ask.to
+  pub gave_rises : r.gave.from ≤ r.gave.to
   pub kind : KindTold s s' conn (leaves_for left) r r.kind
+  pub method : IsOfMethod s s'.client conn r r.kind
+  -- with it no exchange is under way any more
+  pub over : HasNoExchange s'.conn
   pub served : s'.served ≡ s.served + 1
   pub asked : s'.asked ≡ r.ask.to
   pub given : s'.gave ≡ r.gave.to

@@ -21,6 +21,7 @@ ghost use Rattle.hx_session.specs.Exchanged.{exchange_now};
 ghost use Rattle.hx_session.specs.Causes.{Limits};
 ghost use Rattle.hx_session.specs.First.{IsEnding};
 ghost use Rattle.hx_session.specs.Leaving.{CameLeaves, LeavesBy};
+ghost use Rattle.hx_session.specs.Owning.{CameOwn, OwnAt};
 ghost use Rattle.hx_session.specs.Over.{served_of, after_record};
 ghost use Rattle.hx_session.specs.Stages.{Exchanging, Reading, StandsSo, own_stage, stage_of_answering, stage_now};
 ghost use Rattle.hx_record.specs.declared.served.CutCause.TheVariants.{Early};
@@ -261,6 +262,7 @@ pub(crate) fn leave_answering<L: Link>(
         → Goes (desk_now L.state desk.old) (stage_of_answering answering) seats net (desk_now L.state desk.new) result seats net }
     ensures left { (limits : Limits) (moment : ℕ) → LeavesBy limits moment (desk_now L.state desk.old) left
         → CameLeaves limits moment (desk_now L.state desk.new) result }
+    ensures own { CameOwn answering.status (L.state desk.old.client).taken_count (desk_now L.state desk.new) result }
 {
     let Answering { status, held } = answering;
     let served = tell_own(desk, status);
@@ -283,6 +285,8 @@ pub(crate) fn leave_or_cut<L: Link, S: Seat<Rested<L>>, N: Net<L = L>>(
         (desk_now L.state desk.new) result (map S.history seats.new) (N.state net.new) }
     ensures leaves { (held : Option RestedNow) → stage_now stage ≡ Reading held → IsEnding result }
     ensures left { (limits : Limits) (moment : ℕ) → CameLeaves limits moment (desk_now L.state desk.new) result }
+    ensures own { (status taken : ℕ) → OwnAt status taken (desk_now L.state desk.old) (stage_now stage)
+        → CameOwn status taken (desk_now L.state desk.new) result }
 {
     match stage {
         Stage::Exchanging(exchange) => cut(desk, exchange, seats, net, CutCause::Client),

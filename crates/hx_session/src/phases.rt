@@ -17,6 +17,7 @@ ghost use Rattle.hx_session.specs.Exchanged.{ExchangeNow, exchange_now};
 ghost use Rattle.hx_session.specs.Causes.{HasCome, Limits};
 ghost use Rattle.hx_session.specs.Fits.{limits_with};
 ghost use Rattle.hx_session.specs.Leaving.{CameLeaves, LeavesBy};
+ghost use Rattle.hx_session.specs.Owning.{CameOwn, DoneOwn, OwnAt};
 ghost use Rattle.hx_record.specs.declared.served.LeftCause.TheVariants as left_cause;
 ghost use Rattle.hx_session.specs.First.{IsFresh, FreshOn, ReadOn, WasRead};
 ghost use Rattle.hx_session.specs.Ending.{HasOwnText};
@@ -130,6 +131,8 @@ fn meet_client_late<L: Link, S: Seat<Rested<L>>, N: Net<L = L>>(
         (desk_now L.state desk.new) result (map S.history seats.new) (N.state net.new) }
     ensures left { (limits : Limits) (moment : ℕ) → LeavesBy limits moment (desk_now L.state desk.old) left_cause.Idle
         → CameLeaves limits moment (desk_now L.state desk.new) result }
+    ensures own { (status taken : ℕ) → OwnAt status taken (desk_now L.state desk.old) (stage_now stage)
+        → CameOwn status taken (desk_now L.state desk.new) result }
 {
     match stage {
         Stage::Exchanging(exchange) => cut_late(desk, exchange, seats, net, own),
@@ -170,6 +173,8 @@ fn meet_server_late<L: Link, S: Seat<Rested<L>>, N: Net<L = L>>(
     ensures goes { Goes (desk_now L.state desk.old) (stage_now stage) (map S.history seats.old) (N.state net.old)
         (desk_now L.state desk.new) result (map S.history seats.new) (N.state net.new) }
     ensures left { (limits : Limits) (moment : ℕ) → CameLeaves limits moment (desk_now L.state desk.new) result }
+    ensures own { (status taken : ℕ) → OwnAt status taken (desk_now L.state desk.old) (stage_now stage)
+        → CameOwn status taken (desk_now L.state desk.new) result }
 {
     match stage {
         Stage::Exchanging(exchange) => end_by_server(
@@ -203,6 +208,8 @@ fn meet_deadline<L: Link, S: Seat<Rested<L>>, N: Net<L = L>>(
         ⊎ HasCome scene.entry.front.now.client desk.old.since.0 scene.entry.now.0 }
     ensures left { CameLeaves (limits_with (Some scene.entry.front.now) (Some scene.entry.back.now)) scene.entry.now.0
         (desk_now L.state desk.new) result }
+    ensures own { (status taken : ℕ) → OwnAt status taken (desk_now L.state desk.old) (stage_now stage)
+        → CameOwn status taken (desk_now L.state desk.new) result }
 {
     match find_late(desk, &stage, scene.front, scene.back, scene.now) {
         None => Came::On(stage, Waiting::Nothing),
@@ -231,6 +238,8 @@ fn give_some<L: Link, S: Seat<Rested<L>>, N: Net<L = L>>(
         (desk_now L.state desk.new) result (map S.history seats.new) (N.state net.new) }
     ensures first { (l : LinkState) → IsFresh l (desk_now L.state desk.old) (stage_now stage) → FreshOn l (desk_now L.state desk.new) result }
     ensures left { (limits : Limits) (moment : ℕ) → CameLeaves limits moment (desk_now L.state desk.new) result }
+    ensures own { (status taken : ℕ) → OwnAt status taken (desk_now L.state desk.old) (stage_now stage)
+        → CameOwn status taken (desk_now L.state desk.new) result }
 {
     match give(desk, at.now) {
         Move::Bytes => Came::Moved(stage, at.waits, None),
@@ -264,6 +273,8 @@ fn move_to_client<L: Link, S: Seat<Rested<L>>, N: Net<L = L>>(
     ensures first { (l : LinkState) → FreshOn l (desk_now L.state desk.old) came → FreshOn l (desk_now L.state desk.new) result }
     ensures left { (limits : Limits) (moment : ℕ) → CameLeaves limits moment (desk_now L.state desk.old) came
         → CameLeaves limits moment (desk_now L.state desk.new) result }
+    ensures own { (status taken : ℕ) → CameOwn status taken (desk_now L.state desk.old) came
+        → CameOwn status taken (desk_now L.state desk.new) result }
 {
     let Came::On(stage, waits) = came else {
         return came;
@@ -346,6 +357,8 @@ fn move_to_server<L: Link, S: Seat<Rested<L>>, N: Net<L = L>>(
     ensures first { (l : LinkState) → FreshOn l (desk_now L.state desk.old) came → FreshOn l (desk_now L.state desk.new) result }
     ensures left { (limits : Limits) (moment : ℕ) → CameLeaves limits moment (desk_now L.state desk.old) came
         → CameLeaves limits moment (desk_now L.state desk.new) result }
+    ensures own { (status taken : ℕ) → CameOwn status taken (desk_now L.state desk.old) came
+        → CameOwn status taken (desk_now L.state desk.new) result }
 {
     let Came::On(stage, waits) = came else {
         return came;
@@ -378,6 +391,7 @@ fn take_turn<L: Link, S: Seat<Rested<L>>>(
     ensures told { (d0 d : DeskNow) (s0 : StageNow) → CameTells d0 s0 d came → CameTells d0 s0 d result }
     ensures first { (l : LinkState) (d : DeskNow) → FreshOn l d came → FreshOn l d result }
     ensures left { (limits : Limits) (moment : ℕ) (d : DeskNow) → CameLeaves limits moment d came → CameLeaves limits moment d result }
+    ensures own { (status taken : ℕ) (d : DeskNow) → CameOwn status taken d came → CameOwn status taken d result }
 {
     let Came::On(stage, waits) = came else {
         return came;
@@ -392,6 +406,7 @@ fn end_answering<L: Link>(desk: &mut Desk<L>, answering: Answering<L>, waits: Wa
     ensures goes { (seats : List History) (net : NetState) → IsPlaced (desk_now L.state desk.old) (stage_of_answering answering) seats
         → Goes (desk_now L.state desk.old) (stage_of_answering answering) seats net (desk_now L.state desk.new) result seats net }
     ensures left { (limits : Limits) (moment : ℕ) → CameLeaves limits moment (desk_now L.state desk.new) result }
+    ensures own { CameOwn answering.status (L.state desk.old.client).taken_count (desk_now L.state desk.new) result }
 {
     if desk.to.len() > 0 {
         return Came::On(Stage::Answering(answering), waits);
@@ -417,6 +432,8 @@ fn do_stage<L: Link, S: Seat<Rested<L>>, N: Net<L = L>>(
         (desk_now L.state desk.new) result (map S.history seats.new) (N.state net.new) }
     ensures first { (l : LinkState) → IsFresh l (desk_now L.state desk.old) (stage_now stage) → FreshOn l (desk_now L.state desk.new) result }
     ensures left { (limits : Limits) (moment : ℕ) → CameLeaves limits moment (desk_now L.state desk.new) result }
+    ensures own { (status taken : ℕ) → OwnAt status taken (desk_now L.state desk.old) (stage_now stage)
+        → CameOwn status taken (desk_now L.state desk.new) result }
 {
     match stage {
         Stage::Reading(held) => read_head(desk, held, scene.now, scene.waits),
@@ -463,6 +480,8 @@ fn do_phase<L: Link, S: Seat<Rested<L>>, N: Net<L = L>>(
     ensures first { (l : LinkState) → FreshOn l (desk_now L.state desk.old) came → FreshOn l (desk_now L.state desk.new) result }
     ensures left { (limits : Limits) (moment : ℕ) → CameLeaves limits moment (desk_now L.state desk.old) came
         → CameLeaves limits moment (desk_now L.state desk.new) result }
+    ensures own { (status taken : ℕ) → CameOwn status taken (desk_now L.state desk.old) came
+        → CameOwn status taken (desk_now L.state desk.new) result }
 {
     let Came::On(stage, waits) = came else {
         return came;
@@ -535,6 +554,8 @@ fn move_from_client<L: Link, S: Seat<Rested<L>>, N: Net<L = L>>(
     ensures first { (l : LinkState) → FreshOn l (desk_now L.state desk.old) came → ReadOn l (desk_now L.state desk.new) result }
     ensures left { (limits : Limits) (moment : ℕ) → CameLeaves limits moment (desk_now L.state desk.old) came
         → CameLeaves limits moment (desk_now L.state desk.new) result }
+    ensures own { (status taken : ℕ) → CameOwn status taken (desk_now L.state desk.old) came
+        → CameOwn status taken (desk_now L.state desk.new) result }
 {
     let Came::On(stage, waits) = came else {
         return came;
@@ -585,6 +606,8 @@ fn move_from_server<L: Link, S: Seat<Rested<L>>, N: Net<L = L>>(
     ensures first { (l : LinkState) → ReadOn l (desk_now L.state desk.old) came → WasRead l (L.state desk.new.client) }
     ensures left { (limits : Limits) (moment : ℕ) → CameLeaves limits moment (desk_now L.state desk.old) came
         → CameLeaves limits moment (desk_now L.state desk.new) result }
+    ensures own { (status taken : ℕ) → CameOwn status taken (desk_now L.state desk.old) came
+        → CameOwn status taken (desk_now L.state desk.new) result }
 {
     let Came::On(stage, waits) = came else {
         return came;
@@ -633,10 +656,12 @@ fn give_left<L: Link, S: Seat<Rested<L>>, N: Net<L = L>>(
         (N.state net.old) (N.state net.new) }
     ensures seats { ending.held ≡ None → map S.history seats.new ≡ map S.history seats.old }
     ensures told { (d0 : DeskNow) (s0 : StageNow) → TellsEnd s0 d0 (desk_now L.state desk.old) ending.served ending.cause
-        → DoneTells d0 s0 (desk_now L.state desk.new) result.served result.left }
+        → DoneTells d0 s0 (desk_now L.state desk.new) (stage_now result.stage) result.served result.left }
     ensures client { L.state desk.new.client ≡ record (L.state desk.old.client) { on_loop = None } }
     ensures left { (limits : Limits) (moment : ℕ) → LeavesBy limits moment (desk_now L.state desk.old) ending.cause
         → IfSome result.left (λ l. LeavesBy limits moment (desk_now L.state desk.new) l.cause) }
+    ensures own { (status taken : ℕ) → CameOwn status taken (desk_now L.state desk.old) (Ends ending)
+        → DoneOwn status taken (desk_now L.state desk.new) (stage_now result.stage) result.served }
 {
     let Ending {
         cause,
@@ -672,10 +697,12 @@ fn conclude<L: Link, S: Seat<Rested<L>>, N: Net<L = L>>(
     ensures picks { (c : Option Holding) (v : Option ServerNo) (hs : List History) → Picks c v hs came (map S.history seats.old)
         → PicksTo c v hs (stage_now result.stage) (map S.history seats.new) }
     ensures told { (d0 : DeskNow) (s0 : StageNow) → CameTells d0 s0 (desk_now L.state desk.old) came
-        → DoneTells d0 s0 (desk_now L.state desk.new) result.served result.left }
+        → DoneTells d0 s0 (desk_now L.state desk.new) (stage_now result.stage) result.served result.left }
     ensures first { (l : LinkState) → WasRead l (L.state desk.old.client) → WasRead l (L.state desk.new.client) }
     ensures left { (limits : Limits) (moment : ℕ) → CameLeaves limits moment (desk_now L.state desk.old) came
         → IfSome result.left (λ l. LeavesBy limits moment (desk_now L.state desk.new) l.cause) }
+    ensures own { (status taken : ℕ) → CameOwn status taken (desk_now L.state desk.old) came
+        → DoneOwn status taken (desk_now L.state desk.new) (stage_now result.stage) result.served }
 {
     match came {
         Came::On(stage, waits) => Done {
@@ -723,12 +750,15 @@ pub(crate) fn advance<L: Link, S: Seat<Rested<L>>, N: Net<L = L>>(
     ensures turn { turn.new < length scene.entry.back.now.servers }
     ensures picks { PicksAll scene.entry.back.now.servers turn.old turn.new (stage_now stage) (map S.history seats.old)
         (stage_now result.stage) (map S.history seats.new) }
-    ensures told { DoneTells (desk_now L.state desk.old) (stage_now stage) (desk_now L.state desk.new) result.served result.left }
+    ensures told { DoneTells (desk_now L.state desk.old) (stage_now stage) (desk_now L.state desk.new) (stage_now result.stage)
+        result.served result.left }
     ensures first { IsFresh (L.state desk.old.client) (desk_now L.state desk.old) (stage_now stage) → desk.old.number ≡ 1
         → WasRead (L.state desk.old.client) (L.state desk.new.client)
         ⊎ HasCome scene.entry.front.now.client desk.old.since.0 scene.entry.now.0 }
     ensures left { IfSome result.left (λ l. LeavesBy (limits_with (Some scene.entry.front.now) (Some scene.entry.back.now))
         scene.entry.now.0 (desk_now L.state desk.new) l.cause) }
+    ensures own { (status taken : ℕ) → OwnAt status taken (desk_now L.state desk.old) (stage_now stage)
+        → DoneOwn status taken (desk_now L.state desk.new) (stage_now result.stage) result.served }
 {
     let came = meet_deadline(desk, stage, seats, net, scene);
     let came = move_to_client(desk, came, seats, net, scene.now);

@@ -1,12 +1,12 @@
 -- From a worker's step alone, each part of the headline that sessions promise follows.
-use Rattle.std.proofs.Common.{◌≡◌, ◌⊎◌, ⊎_elim, inl, inr, ℕ, zero, suc, ◌+◌, Bool, true, false, List, [], ◌∷◌, ◌++◌, length, refl, sym, ap, ◌∙◌, subst, Option, Some, None, IsSome}
-use Rattle.std.specs.Prelude.{IfSome, slice_get, option_map}
+use Rattle.std.proofs.Common.{◌≡◌, ⊎_elim, inr, ℕ, zero, suc, ◌+◌, Bool, true, false, List, [], ◌∷◌, refl, sym, ◌∙◌, subst, Option, Some, None, IsSome}
+use Rattle.std.specs.Prelude.{IfSome}
 use Rattle.hx_base.specs.declared.numbers.SessionNo.{SessionNo}
 use Rattle.hx_base.specs.declared.what.What.{What}
 use Rattle.hx_base.specs.declared.what.LinkTold.{LinkTold}
 use Rattle.hx_conn.specs.WhatTold.{what_of_link}
 use Rattle.hx_link.specs.Told.{LinkState}
-use Rattle.hx_link.specs.Nets.{NetState, DialTold, StaysTold}
+use Rattle.hx_link.specs.Nets.{NetState, DialTold}
 use Rattle.hx_pool.specs.declared.entries.Note.{Note}
 use Rattle.hx_pool.specs.SeatView.{History}
 use Rattle.hx_record.specs.Carriage.{Carriage}
@@ -63,7 +63,11 @@ records_stand s a conn left (Some r) t = record {
   number = t.number;
   ask = t.ask;
   gave = t.gave;
+  ask_rises = t.ask_rises;
+  gave_rises = t.gave_rises;
   is_true = kind_stands s a conn (leaves_for left) r r.kind t.kind;
+  method = t.method;
+  over = t.over;
   served = t.served;
   asked = t.asked;
   given = t.given;
@@ -83,10 +87,10 @@ of_told : (o : Option LinkTold) (x : LinkTold) (P : Carriage → Type 0) → o �
 of_told o x P e t = subst (λ (p : Option LinkTold). WhereTold p P) e t
 
 -- a session with an exchange touches its connection, whose link is still told of
-was_there : (s : SessionNow) (h : _) (x : Touch) (c : Came) (w : Option What) (b : Holding) → s.conn ≡ Some b → TellsBefore s h x c w → IsSome w
-was_there s h x Had w b e t = subst (λ (o : Option What). IsSome o) (sym t.2) refl
-was_there s h x Opened w b e t = let none = sym e ∙ t.0 in cc
-was_there s h x (Took place uses) w b e t = let none = sym e ∙ t.0 in cc
+was_there : (s : SessionNow) (h : _) (es : _) (x : Touch) (c : Came) (w : Option What) (b : Holding) → s.conn ≡ Some b → TellsBefore s h es x c w → IsSome w
+was_there s h es x Had w b e t = subst (λ (o : Option What). IsSome o) (sym t.2) refl
+was_there s h es x Opened w b e t = let none = sym e ∙ t.0 in cc
+was_there s h es x (Took place uses) w b e t = let none = sym e ∙ t.0 in cc
 
 is_there : (a b : Option What) → IsSome a → GoesOn a b → IsSome b
 is_there None b i g = cc
@@ -95,7 +99,7 @@ is_there (Some a) (Some b) i g = refl
 
 conn_there : (d : Doing) (x : Option Touch) (t : Touches d x) (b : Holding) → d.old.conn ≡ Some b → (x ≡ None → ⊥) → IsSome (after_of d x t)
 conn_there d None t b e some = absurd (some refl)
-conn_there d (Some x) t b e some = is_there t.goes.before t.goes.after (was_there d.old t.at.history x x.came t.goes.before b e t.goes.was) t.goes.same
+conn_there d (Some x) t b e some = is_there t.goes.before t.goes.after (was_there d.old t.at.history t.at.es x x.came t.goes.before b e t.goes.was) t.goes.same
 
 -- and where it touched none, only an own answer's record is given
 not_none : (d : Doing) (x : Option Touch) → Touches d x → (r : Served) → d.served ≡ Some r → (IsOwn r.kind → ⊥) → x ≡ None → ⊥

@@ -1,5 +1,5 @@
 -- Which links a step and a stop leave buried, and which server a step chose for the connection that it touched.
-use Rattle.std.proofs.Common.{◌≡◌, ◌⊎◌, ⊎_elim, inl, inr, ℕ, suc, ◌+◌, ◌<◌, Bool, true, false, List, [], ◌∷◌, ◌++◌, length, refl, sym, ap, ◌∙◌, subst, Option, Some, None, IsSome, append_assoc}
+use Rattle.std.proofs.Common.{◌≡◌, ⊎_elim, inl, inr, ℕ, suc, ◌+◌, ◌<◌, Bool, true, false, List, [], ◌∷◌, ◌++◌, length, refl, sym, ap, ◌∙◌, subst, Option, Some, None, IsSome, append_assoc}
 use Rattle.std.proofs.lemmas.Option.{slice_get_within}
 use Rattle.std.specs.Prelude.{option_map, option_to_list}
 use Rattle.hx_base.specs.declared.what.What.{What}
@@ -34,14 +34,14 @@ adds_length P i (x ∷ old) (y ∷ new) [] a = absurd a
 adds_length P i (x ∷ old) (y ∷ new) (es ∷ added) a = ap suc (adds_length P (i + 1) old new added a.2)
 
 -- a session that had the connection had one
-had_one : (s : SessionNow) (h : History) (x : Touch) (w : Option What) → TellsBefore s h x Had w → IsSome s.conn
-had_one s h x w k = subst (λ (o : Option Holding). IsSome o) (sym k.1.0) refl
+had_one : (s : SessionNow) (h : History) (es : List Note) (x : Touch) (w : Option What) → TellsBefore s h es x Had w → IsSome s.conn
+had_one s h es x w k = subst (λ (o : Option Holding). IsSome o) (sym k.1.0) refl
 
 is_of_seat : (d : Doing) (x : Option Touch) → Touches d x → length d.added ≡ length d.before.seats → IsOfSeat d.old d.before.seats x
 is_of_seat d None t e = tt
 is_of_seat d (Some x) t e = (
   subst (λ n. x.server.0 < n) e (slice_get_within d.added x.server.0 t.at.es t.at.entries),
-  λ had. had_one d.old t.at.history x t.goes.before (subst (λ (c : Came). TellsBefore d.old t.at.history x c t.goes.before) had t.goes.was),
+  λ had. had_one d.old t.at.history t.at.es x t.goes.before (subst (λ (c : Came). TellsBefore d.old t.at.history t.at.es x c t.goes.before) had t.goes.was),
 )
 
 -- what a step chose, told of the connection that it touched

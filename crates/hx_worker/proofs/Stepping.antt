@@ -15,6 +15,7 @@ use Rattle.hx_connecting.specs.Journals.{JournalRoom, JournalsStay}
 use Rattle.hx_connecting.specs.Sessions.{SessionNow, Around, around_with, is_first}
 use Rattle.hx_connecting.specs.Touches.{most_marks}
 use Rattle.hx_numbered.specs.Numbers.{value_of, with_value, removed}
+use Rattle.hx_session.specs.Deciding.{KeepsOwn}
 use Rattle.hx_session.specs.Fits.{IsGoing, TurnsFit, SeatsServe}
 use Rattle.hx_session.specs.Kept.{IsSameStep, IsStopped}
 use Rattle.hx_session.specs.Linking.{StepLinks, StopLinks}
@@ -31,7 +32,7 @@ use Rattle.hx_worker.specs.Stops.{SessionStop, StopsOne, TakesLeast}
 use Rattle.hx_worker.specs.Listed.{sessions_of, AreUnderTheirs}
 use Rattle.hx_worker.proofs.ByNumber.{each_found, session_here}
 use Rattle.hx_worker.proofs.Items.{value_is, with_under, removed_under, with_placed, removed_placed, with_found}
-use Rattle.hx_worker.proofs.Keeping.{MayCall, may_call, Stepped, step_sessions, step_seats, stepped, after_number, stop_sessions, stop_seats, stopped_one}
+use Rattle.hx_worker.proofs.Keeping.{MayCall, may_call, Stepped, step_sessions, step_seats, stepped, stepped_so, after_number, stop_sessions, stop_seats, stopped_one}
 use Rattle.hx_worker.proofs.Linked.{chose_for}
 use Rattle.hx_worker.proofs.Owners.{few_marks}
 
@@ -56,6 +57,7 @@ pub record StepEnsures (config : Meaning) (s a : SessionNow) (before after : Aro
   pub links : s.over ≡ false → StepLinks s a before after r
   pub chooses : s.over ≡ false → StepPicks config s a before after r
   pub tells : s.over ≡ false → StepTold s a r.left r.served
+  pub keeps : s.over ≡ false → KeepsOwn s a r.served
   pub ended : (r.waits ≡ waits.Ended → a.over ≡ true) × (a.over ≡ true → r.waits ≡ waits.Ended)
   pub turns : TurnsFit config after.turns
   pub going : a.over ≡ false → IsGoing config a
@@ -75,6 +77,7 @@ step_made config n ss s a before after r there going e = record {
     links = e.links going.going;
     chooses = chose_for config s a before after r (e.links going.going) (e.chooses going.going);
     tells = e.tells going.going;
+    keeps = e.keeps going.going;
     ended = e.ended;
   };
   turns = e.turns;
@@ -98,6 +101,12 @@ pub settled_rooms : {S : Type 0} (f : S → JournalRoom) (k : ℕ) (xs ys xs' ys
 settled_rooms {S} f k xs ys xs' ys' a b j =
     subst (λ (l : List S). JournalsStay k (map f l) (map f ys')) a (subst (λ (l : List S). JournalsStay k (map f xs) (map f l)) b j)
 
+-- a session of the worker goes on
+pub going_there : (items : List (ℕ × SessionNow)) (n : ℕ) (s : SessionNow) (t : ThreadNo) (config : Meaning) {hs : List History} {js : List JournalRoom} {ts : List ℕ} {last : ℕ} → AreUnderTheirs items
+    → HasSessions (worker_now t config hs js ts last (sessions_of items)) → Some s ≡ value_of items n → s.over ≡ false
+going_there items n s t config under has value =
+    (each_found (IsOurs t config) (sessions_of items) n s (sym (value_is items n under) ∙ sym value) has.ours).1.going.going
+
 -- ---- what the worker's step owes
 
 -- one burial
@@ -111,38 +120,40 @@ buries_one a b l n = record {
 }
 
 -- the sessions are sound, the seats are those that it asks for, and what a caller learns
-pub record StepDone (w w' : WorkerNow) (items' : List (ℕ × SessionNow)) (net net' : NetState) (n : SessionNo) (r : Step) : Type 0 where
+pub record StepDone (P : SessionNow → SessionNow → Type 0) (w w' : WorkerNow) (items' : List (ℕ × SessionNow)) (net net' : NetState) (n : SessionNo) (r : Step) : Type 0 where
   pub under : AreUnderTheirs items'
   pub sound : HasSessions w'
   pub seats : HasSeats w → HasSeats w'
   pub steps : Steps w w' net net' n r
+  pub timely : P steps.session steps.after
 
-module _ (t : ThreadNo) (config : Meaning) (hs hs' : List History) (js js' : List JournalRoom) (ts ts' : List ℕ) (last : ℕ) (items : List (ℕ × SessionNow)) (net mid : NetState) (n : SessionNo) (r : Step) (s a : SessionNow)
+module _ (P : SessionNow → SessionNow → Type 0) (t : ThreadNo) (config : Meaning) (hs hs' : List History) (js js' : List JournalRoom) (ts ts' : List ℕ) (last : ℕ) (items : List (ℕ × SessionNow)) (net mid : NetState) (n : SessionNo) (r : Step) (s a : SessionNow)
     (x : Stepped config n.0 (sessions_of items) s a (around_with hs ts net) (around_with hs' ts' mid) r) (under : AreUnderTheirs items) (has : HasSessions (worker_now t config hs js ts last (sessions_of items)))
-    (journals : JournalsStay most_marks js js') where
+    (journals : JournalsStay most_marks js js') (p : P s a) where
   number : a.number.0 ≡ n.0
   number = after_number t config hs hs' js js' ts ts' last (sessions_of items) net mid n.0 r s a x has
 
   -- with these sessions behind it
   done : (items' : List (ℕ × SessionNow)) (net' : NetState) → AreUnderTheirs items' → sessions_of items' ≡ placed (sessions_of items) a → BuriesClient a.over a.client mid net'
-      → StepDone (worker_now t config hs js ts last (sessions_of items)) (worker_now t config hs' js' ts' last (sessions_of items')) items' net net' n r
+      → StepDone P (worker_now t config hs js ts last (sessions_of items)) (worker_now t config hs' js' ts' last (sessions_of items')) items' net net' n r
   done items' net' under' is buries = record {
     under = under';
     sound = subst (λ l. HasSessions (worker_now t config hs' js' ts' last l)) (sym is) (step_sessions t config hs hs' js js' ts ts' last (sessions_of items) net mid n.0 r s a x has);
     seats = λ seats. subst (λ l. HasSeats (worker_now t config hs' js' ts' last l)) (sym is) (step_seats t config hs hs' js js' ts ts' last (sessions_of items) net mid n.0 r s a x has seats);
     steps = stepped t config hs hs' js js' ts ts' last (sessions_of items) (sessions_of items') net mid net' n r s a x is buries journals;
+    timely = stepped_so t config hs hs' js js' ts ts' last (sessions_of items) (sessions_of items') net mid net' n r s a x is buries journals P p;
   }
 
   -- a session that goes on
   goes_on : (r.waits ≡ waits.Ended → ⊥)
-      → StepDone (worker_now t config hs js ts last (sessions_of items)) (worker_now t config hs' js' ts' last (sessions_of (with_value items n.0 a))) (with_value items n.0 a) net mid n r
+      → StepDone P (worker_now t config hs js ts last (sessions_of items)) (worker_now t config hs' js' ts' last (sessions_of (with_value items n.0 a))) (with_value items n.0 a) net mid n r
   goes_on never =
       let on : a.over ≡ false = not_over a.over (λ over. never (x.step.ended.1 over)) in
       done (with_value items n.0 a) mid (with_under items n.0 a number under) (with_placed items n.0 a number on under) (subst (λ b. BuriesClient b a.client mid mid) (sym on) refl)
 
   -- and one that ended, whose client's link l is buried
   is_gone : (gone : List (ℕ × SessionNow)) (net' : NetState) (l : LinkState) → r.waits ≡ waits.Ended → gone ≡ removed (with_value items n.0 a) n.0 → l ≡ a.client → NetBuries mid net' l
-      → StepDone (worker_now t config hs js ts last (sessions_of items)) (worker_now t config hs' js' ts' last (sessions_of gone)) gone net net' n r
+      → StepDone P (worker_now t config hs js ts last (sessions_of items)) (worker_now t config hs' js' ts' last (sessions_of gone)) gone net net' n r
   is_gone gone net' l ended rest is buries =
       let over : a.over ≡ true = x.step.ended.0 ended in
       done gone net' (subst AreUnderTheirs (sym rest) (removed_under (with_value items n.0 a) n.0 (with_under items n.0 a number under)))
@@ -150,10 +161,10 @@ module _ (t : ThreadNo) (config : Meaning) (hs hs' : List History) (js js' : Lis
       (subst (λ b. BuriesClient b a.client mid net') (sym over) (x.left over, buries_one mid net' a.client (subst (NetBuries mid net') is buries)))
 
 -- the same from what the session's call ensures, of the lists that are lent to it
-module _ {S : Type 0} (h : S → History) (f : S → JournalRoom) (t : ThreadNo) (config : Meaning) (last : ℕ) (items : List (ℕ × SessionNow)) (xs ys xs' ys' : List S) (ts us ts' us' : List ℕ)
+module _ {S : Type 0} (P : SessionNow → SessionNow → Type 0) (h : S → History) (f : S → JournalRoom) (t : ThreadNo) (config : Meaning) (last : ℕ) (items : List (ℕ × SessionNow)) (xs ys xs' ys' : List S) (ts us ts' us' : List ℕ)
     (net mid : NetState) (n : SessionNo) (r : Step) (s a : SessionNow) (before : xs ≡ ys) (turns : ts ≡ us) (behind : xs' ≡ ys') (turns' : ts' ≡ us') (value : Some s ≡ value_of items n.0)
     (ensures : StepEnsures config s a (around_with (map h xs) ts net) (around_with (map h xs') ts' mid) r) (rooms : JournalsStay most_marks (map f xs) (map f xs'))
-    (under : AreUnderTheirs items) (has : HasSessions (worker_now t config (map h ys) (map f ys) us last (sessions_of items))) where
+    (under : AreUnderTheirs items) (has : HasSessions (worker_now t config (map h ys) (map f ys) us last (sessions_of items))) (p : P s a) where
   made : Stepped config n.0 (sessions_of items) s a (around_with (map h ys) us net) (around_with (map h ys') us' mid) r
   made =
       let there : session_of (sessions_of items) n.0 ≡ Some s = sym (value_is items n.0 under) ∙ sym value in
@@ -162,17 +173,17 @@ module _ {S : Type 0} (h : S → History) (f : S → JournalRoom) (t : ThreadNo)
       (settled h xs ys xs' ys' ts us ts' us' config s a net mid r before turns behind turns' ensures)
 
   pub stays_here : (r.waits ≡ waits.Ended → ⊥)
-      → StepDone (worker_now t config (map h ys) (map f ys) us last (sessions_of items)) (worker_now t config (map h ys') (map f ys') us' last (sessions_of (with_value items n.0 a)))
+      → StepDone P (worker_now t config (map h ys) (map f ys) us last (sessions_of items)) (worker_now t config (map h ys') (map f ys') us' last (sessions_of (with_value items n.0 a)))
       (with_value items n.0 a) net mid n r
   stays_here never =
-      goes_on t config (map h ys) (map h ys') (map f ys) (map f ys') us us' last items net mid n r s a made under has
-      (settled_rooms f most_marks xs ys xs' ys' before behind rooms) never
+      goes_on P t config (map h ys) (map h ys') (map f ys) (map f ys') us us' last items net mid n r s a made under has
+      (settled_rooms f most_marks xs ys xs' ys' before behind rooms) p never
 
   pub gone_here : (gone : List (ℕ × SessionNow)) (net' : NetState) (l : LinkState) → r.waits ≡ waits.Ended → gone ≡ removed (with_value items n.0 a) n.0 → l ≡ a.client → NetBuries mid net' l
-      → StepDone (worker_now t config (map h ys) (map f ys) us last (sessions_of items)) (worker_now t config (map h ys') (map f ys') us' last (sessions_of gone)) gone net net' n r
+      → StepDone P (worker_now t config (map h ys) (map f ys) us last (sessions_of items)) (worker_now t config (map h ys') (map f ys') us' last (sessions_of gone)) gone net net' n r
   gone_here gone net' l ended rest is buries =
-      is_gone t config (map h ys) (map h ys') (map f ys) (map f ys') us us' last items net mid n r s a made under has
-      (settled_rooms f most_marks xs ys xs' ys' before behind rooms) gone net' l ended rest is buries
+      is_gone P t config (map h ys) (map h ys') (map f ys) (map f ys') us us' last items net mid n r s a made under has
+      (settled_rooms f most_marks xs ys xs' ys' before behind rooms) p gone net' l ended rest is buries
 
 -- what is taken out behind a step is the session behind it
 pub taken_out : (items : List (ℕ × SessionNow)) (n : ℕ) (s a taken : SessionNow) → Some s ≡ value_of items n → Some taken ≡ value_of (with_value items n a) n → taken ≡ a

@@ -1,7 +1,7 @@
 -- What one step of a worker carries of the headline: each server's entries stand in one history, what was opened was
 -- wanted, each connection that the seats hold is with its session, records are true, a server was chosen in turn, a
 -- connection was closed for a cause, and links were dialled and buried as is due.
-use Rattle.std.specs.Prelude.{◌≡◌, ℕ, ◌≤◌, List, [], ◌∷◌, ◌++◌, length, Option, Some, None, IfSome, IsSome, slice_get}
+use Rattle.std.specs.Prelude.{◌≡◌, ℕ, List, [], ◌∷◌, ◌++◌, Option, Some, None, IfSome, IsSome, slice_get}
 use Rattle.hx_base.specs.declared.numbers.SessionNo.{SessionNo}
 use Rattle.hx_base.specs.declared.what.What.{What}
 use Rattle.hx_base.specs.declared.what.LinkTold.{LinkTold}

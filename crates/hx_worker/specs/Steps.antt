@@ -1,5 +1,5 @@
 -- What a caller learns of a worker's step.
-use Rattle.std.specs.Prelude.{◌≡◌, ◌==◌, ◌≤◌, if◌then◌else◌, Bool, true, false, List, [], ◌∷◌, ◌++◌, length, Option, Some, None, option_to_list}
+use Rattle.std.specs.Prelude.{◌≡◌, ◌⊎◌, ℕ, ◌==◌, ◌≤◌, if◌then◌else◌, Bool, true, false, List, [], ◌∷◌, ◌++◌, length, Option, Some, None, option_to_list, IfSome}
 use Rattle.hx_base.specs.declared.numbers.SessionNo.{SessionNo}
 use Rattle.hx_config.specs.Meaning.{Meaning}
 use Rattle.hx_link.specs.Told.{LinkState}
@@ -11,11 +11,14 @@ use Rattle.hx_connecting.specs.Journals.{JournalsStay}
 use Rattle.hx_connecting.specs.Links.{GainsAll}
 use Rattle.hx_connecting.specs.Sessions.{SessionNow, Around, around_with}
 use Rattle.hx_connecting.specs.Touches.{Touch, most_marks}
+use Rattle.hx_session.specs.Deciding.{KeepsOwn}
 use Rattle.hx_session.specs.Doings.{Doing}
 use Rattle.hx_session.specs.Kept.{IsSameStep}
 use Rattle.hx_session.specs.Linking.{StepLinks}
 use Rattle.hx_session.specs.Marking.{AddsMarks}
-use Rattle.hx_session.specs.Steps.{StepChooses, doing}
+use Rattle.hx_session.specs.Causes.{CanBeLate, LeavesFor}
+use Rattle.hx_session.specs.Fits.{limits_of}
+use Rattle.hx_session.specs.Steps.{IsNew, ReadsFirst, StepChooses, doing}
 use Rattle.hx_session.specs.Telling.{StepTold}
 use Rattle.hx_session.specs.Touching.{Touches}
 use Rattle.hx_session.specs.declared.step.Step.{Step}
@@ -27,7 +30,8 @@ abbrev pub HasFewMarks : List Note → Type 0
 HasFewMarks es = length (marks_of es) ≤ most_marks
 
 -- what a session's step is: whose session it stays, which entries it made, server by server, which connection it
--- touched and how the link of that went, which server it chose, what it told, and whether it ended
+-- touched and how the link of that went, which server it chose, what it told, that an own answer stays decided, and
+-- whether it ended
 pub record SessionStep (config : Meaning) (s s' : SessionNow) (before after : Around) (r : Step) : Type 0 where
   pub same : IsSameStep s s' before.seats after.seats before.net after.net
   pub adds : AddsMarks s before.seats after.seats
@@ -35,7 +39,14 @@ pub record SessionStep (config : Meaning) (s s' : SessionNow) (before after : Ar
   pub links : StepLinks s s' before after r
   pub chooses : StepChooses config (doing s s' before after links.added r) links.touches.touch
   pub tells : StepTold s s' r.left r.served
+  pub keeps : KeepsOwn s s' r.served
   pub ended : (r.waits ≡ Ended → s'.over ≡ true) × (s'.over ≡ true → r.waits ≡ Ended)
+
+-- and by its moment: its first one reads its client's link, or that client's timeout can have come, and where the session
+-- leaves it does so for its cause
+pub record IsTimely (config : Meaning) (s s' : SessionNow) (now : ℕ) (r : Step) : Type 0 where
+  pub first : IsNew s → ReadsFirst s s' ⊎ CanBeLate (limits_of config s.front).client s now
+  pub leaves : IfSome r.left (λ l. LeavesFor (limits_of config s.front) s s' r.served now l.cause)
 
 -- the session behind its step in place of that before; one that is over is gone
 abbrev pub placed : List SessionNow → SessionNow → List SessionNow
@@ -84,3 +95,7 @@ pub record Steps (w w' : WorkerNow) (net net' : NetState) (n : SessionNo) (r : S
   pub buried : GainsAll (buried_by w.config session after (around_of w net) (around_of w' mid) r step)
       net.buried net'.buried
   pub journals : JournalsStay most_marks w.journals w'.journals
+
+-- the same, at that moment
+abbrev pub StepsAt : WorkerNow → WorkerNow → NetState → NetState → SessionNo → ℕ → Step → Type 0
+StepsAt w w' net net' n now r = (k : Steps w w' net net' n r) × IsTimely w.config k.session k.after now r

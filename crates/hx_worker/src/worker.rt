@@ -7,7 +7,7 @@ ghost use Rattle.hx_caretaker.specs.Orders.{ordered_server};
 ghost use Rattle.hx_connecting.specs.Journals.{room_of};
 ghost use Rattle.hx_worker.specs.Workers.{HasSeats, HasSessions, new_worker, session_of};
 ghost use Rattle.hx_worker.specs.Admitting.{IsAdmissible, Admits, RefusesFor, next_above};
-ghost use Rattle.hx_worker.specs.Steps.{Steps};
+ghost use Rattle.hx_worker.specs.Steps.{Steps, StepsAt};
 ghost use Rattle.hx_numbered.specs.Numbers.{AreAbove};
 ghost use Rattle.hx_worker.specs.Stops.{StopsNext, TakesLeast};
 ghost use Rattle.hx_worker.specs.Cares.{TicksAll, CarriesOut};
@@ -161,6 +161,7 @@ impl<'a, S: Seat<Rested<L>>, L: Link> Worker<'a, S, L> {
         requires seats { HasSeats self.old }
         requires net { (N.state net.old).loop_no ≡ self.old.thread.0 }
         ensures steps { Steps self.old self.new (N.state net.old) (N.state net.new) n result }
+        ensures timely { StepsAt self.old self.new (N.state net.old) (N.state net.new) n now.0 result }
         ensures seats { HasSeats self.new }
     {
         let Some(session) = self.sessions.get_mut(n.0) else {

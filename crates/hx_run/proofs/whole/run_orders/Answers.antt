@@ -14,6 +14,7 @@ pub loop-what-preserved : goal.loop-what-preserved
 loop-what-preserved c = (
   goes_both c.args.running.now c.loop-what.running c.order-in-Some.new.self c.loop-what.invariant.0 c.order-in-Some.ensures.goes,
   c.order.ensures.due c.args.running.now.worker.config c.loop-what.invariant.1,
+  λ h. c.in_ok-order.ensures.course (c.loop-what.invariant.2 h),
 )
 
 pub returns-in_err-order-clause-due : goal.returns-in_err-order-clause-due

@@ -18,7 +18,7 @@ returns-then-closing-clause-told g c = λ d e is gives told.
 pub returns-else-closing-clause-told : goal.returns-else-closing-clause-told
 returns-else-closing-clause-told g c = λ d e is gives told.
     let d1 : DeskNow = desk_now g.L.Link.state c.args.desk.now in
-    passed_moves d d1 e c.args.served c.args.closing c.if-closing.false is gives (told cause.End)
+    passed_moves d d1 e c.args.held c.args.served c.args.closing c.if-closing.false is gives (told cause.End)
 
 pub returns-then-closing-clause-rests : goal.returns-then-closing-clause-rests
 returns-then-closing-clause-rests g c = subst (λ (x : Came g.row.L.Denot). RestsSo x c.args.held c.args.served) (sym c.leave_after.ensures) (refl, refl)

@@ -83,6 +83,8 @@ returns-clause-gives g c =
     record {
       took_to = told.took_to;
       counted = told.counted;
+      rises = told.rises;
+      method = told.method;
       gives = record { to = told.gives.to; served = told.gives.served; number = told.gives.number; asked = told.gives.asked; given = told.gives.given };
       client = told.client;
     }
@@ -108,6 +110,6 @@ returns-clause-touches g c = λ z.
     around_busy d.worker d1.session b b2 olds (ap (λ (x : BusyNow). x.server) ends.1) (ap (λ (x : BusyNow). x.id) ends.1) (ap (λ (x : BusyNow). x.uses) ends.1)
     (ap (λ (x : BusyNow). x.link.on_loop) ends.1) (subst (λ (n : SessionNo). HasAround d.worker n (Some (Exchanging b)) olds) (sym session) c.requires.placed.set.around) in
     let w : RestWay d.worker d1.session (first_of d) (Some (Exchanging b2)) z olds news net net2 q (Some r) =
-    rests_way d.worker d1.session (first_of d) z olds news b2 net net2 q (Some r) around (is_passed d d1 e r gives) (λ none. passed_for d d1 e b2 ends.0 r gives ends.1 c.nth-nth.ensures.meaning none)
+    rests_way d.worker d1.session (first_of d) z olds news b2 net net2 q (Some r) around (is_passed d d1 e r gives) (λ none. passed_for d d1 e b2 ends.0 r gives ends.1 c.nth-nth.ensures.meaning none) c.nth-nth.ensures.meaning.counted
     (rest_causes d d1 e b2 c.requires.over.0 ends.0 r gives c.requires.placed.set.stands c.requires.over.1 c.requires.placed.good ends.1 (ends.2 c.requires.over.0 c.requires.over.1.body) c.nth-nth.ensures.meaning d1.session z net net2) c.rest-held.ensures.rests in
     rest_behind d.worker d1.session d.session (first_of d) z b b2 ends.0 c.args.exchange.answered olds news net net2 q (Some r) session ends.1 w

@@ -8,6 +8,9 @@ use Rattle.hx_session.proofs.PickLemmas.{held_none}
 use Rattle.hx_session.specs.declared.stage.Came.{Came}
 use Rattle.hx_session.specs.Leaving.{CameLeaves}
 use Rattle.hx_session.proofs.LeavingLemmas.{own_leaves_by}
+use Rattle.hx_link.specs.Told.{LinkState}
+use Rattle.hx_record.specs.declared.served.Served.{Served}
+use Rattle.hx_session.specs.Owning.{CameOwn}
 use Rattle.hx_session.proofs.ending.leave_answering.Goals as goal
 
 pub tell_own-served-requires : goal.tell_own-served-requires
@@ -36,4 +39,11 @@ returns g c = record {
       let keeps = own_keeps d d1 d2 c.tell_own-served.ensures.next c.drop_waiting.ensures in
       let client = ap (λ (x : DeskNow). x.client) c.drop_waiting.ensures ∙ ap (λ (x : DeskNow). x.client) c.tell_own-served.ensures.next in
       subst (λ (x : Came g.row.L.Denot). CameLeaves limits moment d2 x) (sym c.leave_after.ensures) (own_leaves_by limits moment d d2 c.args.left client keeps.who.since c.requires.cause k);
+  own =
+      let d : DeskNow = desk_now g.L.Link.state c.args.desk.now in
+      let d2 : DeskNow = desk_now g.L.Link.state c.drop_waiting.new.self in
+      let status = c.args.answering.status in
+      let client = ap (λ (x : DeskNow). x.client) c.drop_waiting.ensures ∙ ap (λ (x : DeskNow). x.client) c.tell_own-served.ensures.next in
+      subst (λ (x : Came g.row.L.Denot). CameOwn status d.client.taken_count d2 x) (sym c.leave_after.ensures)
+      (ap (λ (l : LinkState). l.taken_count) client, (c.tell_own-served.result, refl, ap (λ (r : Served). r.kind) c.tell_own-served.ensures.served));
 }

@@ -17,6 +17,8 @@ use Rattle.hx_session.specs.Leaving.{CameLeaves}
 use Rattle.hx_session.specs.Telling.{HasNoRequest}
 use Rattle.hx_session.specs.Exchanged.{exchange_now}
 use Rattle.hx_session.proofs.LeavingLemmas.{told_leaves}
+use Rattle.hx_session.specs.Seen.{own_seen}
+use Rattle.hx_session.proofs.OwningLemmas.{none_own, own_here}
 use Rattle.hx_session.proofs.ending.leave_or_cut.Goals as goal
 
 pub returns-in-Reading : goal.returns-in-Reading
@@ -30,6 +32,7 @@ returns-in-Reading g c =
           (inl (refl, refl, sym (ap (λ (x : Stage g.row.L.Denot). conn_seen (stage_now x)) c.in-Reading.is), tt, tt)) (none_same d, inr (inl refl), subst (λ (x : Stage g.row.L.Denot). HasNoRequest (stage_now x)) (sym c.in-Reading.is) tt)
           (λ none. (held_none _ (sym (ap (λ (x : Stage g.row.L.Denot). conn_seen (stage_now x)) c.in-Reading.is) ∙ none), refl));
       rooms = rooms_none g.S.HasHistory.history (room_of g.S.HasHistory.kept_from g.S.HasHistory.spare) c.args.seats.now;
+      own = λ status taken k. absurd (none_own (own_seen (stage_now c.args.stage)) status (ap (λ (x : Stage g.row.L.Denot). own_seen (stage_now x)) c.in-Reading.is) k.1);
       left = λ limits moment. subst (λ (x : Came g.row.L.Denot). CameLeaves limits moment d x) (sym c.leave.ensures) c.requires.fault;
       leaves = λ held e. subst (λ (x : Came g.row.L.Denot). IsEnding x) (sym c.leave.ensures) tt;
     }
@@ -45,6 +48,7 @@ returns-in-Choosing g c =
           (inl (refl, refl, sym (ap (λ (x : Stage g.row.L.Denot). conn_seen (stage_now x)) c.in-Choosing.is), tt, tt)) (none_same d, inr (inl refl), subst (λ (x : Stage g.row.L.Denot). HasNoRequest (stage_now x)) (sym c.in-Choosing.is) tt)
           (λ none. (held_none _ (sym (ap (λ (x : Stage g.row.L.Denot). conn_seen (stage_now x)) c.in-Choosing.is) ∙ none), refl));
       rooms = rooms_none g.S.HasHistory.history (room_of g.S.HasHistory.kept_from g.S.HasHistory.spare) c.args.seats.now;
+      own = λ status taken k. absurd (none_own (own_seen (stage_now c.args.stage)) status (ap (λ (x : Stage g.row.L.Denot). own_seen (stage_now x)) c.in-Choosing.is) k.1);
       left = λ limits moment. subst (λ (x : Came g.row.L.Denot). CameLeaves limits moment d x) (sym c.leave-in-Choosing.ensures) c.requires.fault;
       leaves = λ held e. subst (λ (x : Came g.row.L.Denot). IsEnding x) (sym c.leave-in-Choosing.ensures) tt;
     }
@@ -59,6 +63,7 @@ returns-in-Answering g c =
     record {
       goes = subst (λ (x : Stage g.row.L.Denot). Goes d (stage_now x) seats net d2 c.leave_answering.result seats net) (sym c.in-Answering.is) (c.leave_answering.ensures.goes seats net p);
       rooms = rooms_none g.S.HasHistory.history (room_of g.S.HasHistory.kept_from g.S.HasHistory.spare) c.args.seats.now;
+      own = λ status taken k. own_here c.in-Answering.answering.status status d.client.taken_count taken d2 c.leave_answering.result (sym (ap (λ (x : Stage g.row.L.Denot). own_seen (stage_now x)) c.in-Answering.is) ∙ k.1) k.0 c.leave_answering.ensures.own;
       left = λ limits moment. c.leave_answering.ensures.left limits moment c.requires.fault;
       leaves = λ held e. absurd (answering_not _ held (sym (ap stage_now c.in-Answering.is) ∙ e));
     }
@@ -68,3 +73,6 @@ returns-in-Exchanging-clause-left g c = λ limits moment.
     let d : DeskNow = desk_now g.L.Link.state c.args.desk.now in
     let d2 : DeskNow = desk_now g.L.Link.state c.cut.new.desk in
     told_leaves limits moment d d2 d2 (exchange_now c.in-Exchanging.exchange) c.cut.result c.cut.ensures.goes.told
+
+pub returns-in-Exchanging-clause-own : goal.returns-in-Exchanging-clause-own
+returns-in-Exchanging-clause-own g c = λ status taken k. absurd (none_own (own_seen (stage_now c.args.stage)) status (ap (λ (x : Stage g.row.L.Denot). own_seen (stage_now x)) c.in-Exchanging.is) k.1)

@@ -197,3 +197,11 @@ returns-clause-left g c =
     let chosen = c.take_turn-came.ensures.left limits moment (desk_now g.L.Link.state c.move_to_server-came.new.desk) given in
     let read = c.move_from_client-came.ensures.left limits moment (c.do_phase-came.ensures.left limits moment chosen) in
     c.conclude.ensures.left limits moment (c.move_from_server-came.ensures.left limits moment read)
+
+pub returns-clause-own : goal.returns-clause-own
+returns-clause-own g c = λ status taken k.
+    let late = c.meet_deadline-came.ensures.own status taken k in
+    let given = c.move_to_server-came.ensures.own status taken (c.move_to_client-came.ensures.own status taken late) in
+    let chosen = c.take_turn-came.ensures.own status taken (desk_now g.L.Link.state c.move_to_server-came.new.desk) given in
+    let read = c.move_from_client-came.ensures.own status taken (c.do_phase-came.ensures.own status taken chosen) in
+    c.conclude.ensures.own status taken (c.move_from_server-came.ensures.own status taken read)

@@ -15,6 +15,7 @@ use Rattle.hx_session.specs.Stages.{stage_now}
 use Rattle.std.proofs.Common.{◌∙◌}
 use Rattle.hx_session.proofs.PickLemmas.{done_on, done_left}
 use Rattle.hx_session.specs.Leaving.{CameLeaves}
+use Rattle.hx_session.specs.Owning.{CameOwn}
 use Rattle.hx_session.proofs.phases.conclude.Goals as goal
 
 pub returns-in-Ends-clause-routed : goal.returns-in-Ends-clause-routed
@@ -65,3 +66,6 @@ returns-in-Ends-clause-picks g c = λ k v hs p.
 
 pub returns-in-Ends-clause-left : goal.returns-in-Ends-clause-left
 returns-in-Ends-clause-left g c = λ limits moment k. c.give_left.ensures.left limits moment (subst (λ (x : Came g.row.L.Denot). CameLeaves limits moment (desk_now g.L.Link.state c.args.desk.now) x) c.in-Ends.is k)
+
+pub returns-in-Ends-clause-own : goal.returns-in-Ends-clause-own
+returns-in-Ends-clause-own g c = λ status taken k. c.give_left.ensures.own status taken (subst (λ (x : Came g.row.L.Denot). CameOwn status taken (desk_now g.L.Link.state c.args.desk.now) x) c.in-Ends.is k)

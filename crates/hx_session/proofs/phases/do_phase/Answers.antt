@@ -13,6 +13,7 @@ use Rattle.hx_connecting.proofs.RoomLemmas.{rooms_none}
 use Rattle.hx_session.specs.Picking.{Picks}
 use Rattle.hx_session.proofs.PickLemmas.{picks_then}
 use Rattle.hx_session.specs.First.{FreshOn}
+use Rattle.hx_session.specs.Owning.{CameOwn}
 use Rattle.hx_session.proofs.phases.do_phase.Goals as goal
 
 pub returns-clause-told : goal.returns-clause-told
@@ -48,3 +49,6 @@ returns-clause-first g c = λ l f. c.do_stage.ensures.first l (subst (λ (x : Ca
 
 pub returns-clause-left : goal.returns-clause-left
 returns-clause-left g c = λ limits moment k. c.do_stage.ensures.left limits moment
+
+pub returns-clause-own : goal.returns-clause-own
+returns-clause-own g c = λ status taken k. c.do_stage.ensures.own status taken (subst (λ (x : Came g.row.L.Denot). CameOwn status taken (desk_now g.L.Link.state c.args.desk.now) x) c.in-On.is k)

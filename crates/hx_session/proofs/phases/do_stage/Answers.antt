@@ -14,6 +14,8 @@ use Rattle.hx_session.specs.First.{IsFresh}
 use Rattle.hx_session.proofs.FirstLemmas.{answering_not}
 use Rattle.hx_session.specs.Exchanged.{exchange_now}
 use Rattle.hx_session.proofs.LeavingLemmas.{told_leaves}
+use Rattle.hx_session.specs.Seen.{own_seen}
+use Rattle.hx_session.proofs.OwningLemmas.{none_own, own_here}
 use Rattle.hx_session.proofs.phases.do_stage.Goals as goal
 
 pub returns-in-Reading : goal.returns-in-Reading
@@ -27,6 +29,7 @@ returns-in-Reading g c =
     record {
       goes = subst (λ (x : Stage g.row.L.Denot). Goes d (stage_now x) seats net d2 c.read_head.result seats net) (sym c.in-Reading.is) (c.read_head.ensures.goes seats net p);
       rooms = rooms_none g.S.HasHistory.history (room_of g.S.HasHistory.kept_from g.S.HasHistory.spare) c.args.seats.now;
+      own = λ status taken k. absurd (none_own (own_seen (stage_now c.args.stage)) status (ap (λ (x : Stage g.row.L.Denot). own_seen (stage_now x)) c.in-Reading.is) k.1);
       left = c.read_head.ensures.left;
       first = λ l x. c.read_head.ensures.first l (subst (λ (y : Stage g.row.L.Denot). IsFresh l d (stage_now y)) c.in-Reading.is x);
     }
@@ -42,6 +45,7 @@ returns-in-Answering g c =
     record {
       goes = subst (λ (x : Stage g.row.L.Denot). Goes d (stage_now x) seats net d2 c.end_answering.result seats net) (sym c.in-Answering.is) (c.end_answering.ensures.goes seats net p);
       rooms = rooms_none g.S.HasHistory.history (room_of g.S.HasHistory.kept_from g.S.HasHistory.spare) c.args.seats.now;
+      own = λ status taken k. own_here c.in-Answering.answering.status status d.client.taken_count taken d2 c.end_answering.result (sym (ap (λ (x : Stage g.row.L.Denot). own_seen (stage_now x)) c.in-Answering.is) ∙ k.1) k.0 c.end_answering.ensures.own;
       left = c.end_answering.ensures.left;
       first = λ l x. absurd (answering_not _ x.held (sym (ap stage_now c.in-Answering.is) ∙ x.is));
     }
@@ -63,3 +67,9 @@ returns-in-Exchanging-clause-left g c = λ limits moment.
     let d : DeskNow = desk_now g.L.Link.state c.args.desk.now in
     let d2 : DeskNow = desk_now g.L.Link.state c.go_on.new.desk in
     told_leaves limits moment d d2 d2 (exchange_now c.in-Exchanging.exchange) c.go_on.result c.go_on.ensures.goes.told
+
+pub returns-in-Choosing-clause-own : goal.returns-in-Choosing-clause-own
+returns-in-Choosing-clause-own g c = λ status taken k. absurd (none_own (own_seen (stage_now c.args.stage)) status (ap (λ (x : Stage g.row.L.Denot). own_seen (stage_now x)) c.in-Choosing.is) k.1)
+
+pub returns-in-Exchanging-clause-own : goal.returns-in-Exchanging-clause-own
+returns-in-Exchanging-clause-own g c = λ status taken k. absurd (none_own (own_seen (stage_now c.args.stage)) status (ap (λ (x : Stage g.row.L.Denot). own_seen (stage_now x)) c.in-Exchanging.is) k.1)

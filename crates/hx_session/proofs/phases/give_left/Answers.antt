@@ -1,7 +1,8 @@
-use Rattle.std.proofs.Common.{sym, ap, subst, Some, List, map}
+use Rattle.std.proofs.Common.{sym, ap, subst, Some, List, map, ◌∙◌, inr}
 use Rattle.hx_link.specs.Told.{LinkState}
 use Rattle.hx_record.specs.declared.served.Left.{Left}
 use Rattle.hx_session.specs.Desks.{desk_now, DeskNow}
+use Rattle.hx_session.specs.Stages.{Left as Gone}
 use Rattle.hx_session.specs.Telling.{DoneTells}
 use Rattle.hx_session.proofs.TellLemmas.{end_detached}
 use Rattle.hx_pool.specs.SeatView.{History}
@@ -16,7 +17,7 @@ returns-clause-told g c = λ d0 s0 t.
     let d : DeskNow = desk_now g.L.Link.state c.args.desk.now in
     let d2 : DeskNow = desk_now g.L.Link.state c.let_go.new.desk in
     let link = c.let_go.ensures.client in
-    subst (λ (l : Left). DoneTells d0 s0 d2 c.args.ending.served (Some l)) (sym c.leave.ensures)
+    subst (λ (l : Left). DoneTells d0 s0 d2 Gone c.args.ending.served (Some l)) (sym c.leave.ensures)
     (end_detached s0 d0 d d2 c.args.ending.served c.args.ending.cause c.let_go.ensures.desk
     (record { taken = ap (λ (l : LinkState). l.taken) link; sent = ap (λ (l : LinkState). l.sent) link; ended = ap (λ (l : LinkState). l.told_end) link })
     (ap (λ (l : LinkState). l.finished) link) t)
@@ -38,3 +39,6 @@ returns-clause-left g c = λ limits moment k.
     let d2 : DeskNow = desk_now g.L.Link.state c.let_go.new.desk in
     subst (λ (l : Left). LeavesBy limits moment d2 l.cause) (sym c.leave.ensures)
     (loose_leaves limits moment d d2 c.args.ending.cause c.let_go.ensures.client c.let_go.ensures.keeps.who.since (ap (λ (x : DeskNow). x.ask_from) c.let_go.ensures.desk) k)
+
+pub returns-clause-own : goal.returns-clause-own
+returns-clause-own g c = λ status taken k. (ap (λ (l : LinkState). l.taken_count) c.let_go.ensures.client ∙ k.0, inr k.1)

@@ -1,4 +1,4 @@
-use Rattle.std.proofs.Common.{List, map, refl, subst, inl}
+use Rattle.std.proofs.Common.{List, map, refl, subst, inl, ◌∙◌}
 use Rattle.hx_pool.specs.SeatView.{History}
 use Rattle.hx_connecting.specs.Journals.{room_of}
 use Rattle.hx_connecting.proofs.RoomLemmas.{rooms_none}
@@ -15,6 +15,7 @@ use Rattle.hx_session.specs.Seen.{conn_seen}
 use Rattle.hx_session.proofs.PickLemmas.{to_same, kind_self}
 use Rattle.hx_session.specs.Moves.{GivesClient}
 use Rattle.hx_session.proofs.LeavingLemmas.{gave_fault}
+use Rattle.hx_session.proofs.OwningLemmas.{gives_taken}
 use Rattle.hx_session.proofs.phases.give_some.Goals as goal
 
 pub returns-in-Bytes : goal.returns-in-Bytes
@@ -34,6 +35,7 @@ returns-in-Bytes g c =
         told = subst (λ (x : Move). DeskTells x d (stage_now c.args.stage) d2) c.in-Bytes.is (gives_told d d2 (stage_now c.args.stage) c.args.at.now.0 c.give.result c.give.ensures.gives);
       };
       rooms = rooms_none g.S.HasHistory.history (room_of g.S.HasHistory.kept_from g.S.HasHistory.spare) c.args.seats.now;
+      own = λ status taken k. (gives_taken d d2 c.args.at.now.0 c.give.result c.give.ensures.gives ∙ k.0, k.1);
       left = λ limits moment. tt;
       first = λ l f. absurd (idle_not c.give.result Bytes (gives_fresh l d d2 (stage_now c.args.stage) c.args.at.now.0 c.give.result f c.give.ensures.gives).0 c.in-Bytes.is (λ e. cc));
     }
@@ -55,6 +57,7 @@ returns-in-Ended g c =
         told = subst (λ (x : Move). DeskTells x d (stage_now c.args.stage) d2) c.in-Ended.is (gives_told d d2 (stage_now c.args.stage) c.args.at.now.0 c.give.result c.give.ensures.gives);
       };
       rooms = rooms_none g.S.HasHistory.history (room_of g.S.HasHistory.kept_from g.S.HasHistory.spare) c.args.seats.now;
+      own = λ status taken k. (gives_taken d d2 c.args.at.now.0 c.give.result c.give.ensures.gives ∙ k.0, k.1);
       left = λ limits moment. tt;
       first = λ l f. absurd (idle_not c.give.result Ended (gives_fresh l d d2 (stage_now c.args.stage) c.args.at.now.0 c.give.result f c.give.ensures.gives).0 c.in-Ended.is (λ e. cc));
     }
@@ -76,6 +79,7 @@ returns-in-Idle g c =
         told = subst (λ (x : Move). DeskTells x d (stage_now c.args.stage) d2) c.in-Idle.is (gives_told d d2 (stage_now c.args.stage) c.args.at.now.0 c.give.result c.give.ensures.gives);
       };
       rooms = rooms_none g.S.HasHistory.history (room_of g.S.HasHistory.kept_from g.S.HasHistory.spare) c.args.seats.now;
+      own = λ status taken k. (gives_taken d d2 c.args.at.now.0 c.give.result c.give.ensures.gives ∙ k.0, k.1);
       left = λ limits moment. tt;
       first = λ l f. (gives_fresh l d d2 (stage_now c.args.stage) c.args.at.now.0 c.give.result f c.give.ensures.gives).1;
     }
@@ -97,6 +101,7 @@ returns-in-Waits g c =
         told = subst (λ (x : Move). DeskTells x d (stage_now c.args.stage) d2) c.in-Waits.is (gives_told d d2 (stage_now c.args.stage) c.args.at.now.0 c.give.result c.give.ensures.gives);
       };
       rooms = rooms_none g.S.HasHistory.history (room_of g.S.HasHistory.kept_from g.S.HasHistory.spare) c.args.seats.now;
+      own = λ status taken k. (gives_taken d d2 c.args.at.now.0 c.give.result c.give.ensures.gives ∙ k.0, k.1);
       left = λ limits moment. tt;
       first = λ l f. absurd (idle_not c.give.result Waits (gives_fresh l d d2 (stage_now c.args.stage) c.args.at.now.0 c.give.result f c.give.ensures.gives).0 c.in-Waits.is (λ e. cc));
     }
@@ -121,6 +126,7 @@ returns-in-Failed g c =
           (gives_keep d d2 c.args.at.now.0 c.give.result c.give.ensures.gives).desk (gives_keep d d2 c.args.at.now.0 c.give.result c.give.ensures.gives).number c.leave_or_cut.ensures.goes
           (subst (λ (x : Move). DeskTells x d (stage_now c.args.stage) d2) c.in-Failed.is (gives_told d d2 (stage_now c.args.stage) c.args.at.now.0 c.give.result c.give.ensures.gives));
       rooms = c.leave_or_cut.ensures.rooms;
+      own = λ status taken k. c.leave_or_cut.ensures.own status taken (gives_taken d d2 c.args.at.now.0 c.give.result c.give.ensures.gives ∙ k.0, k.1);
       left = c.leave_or_cut.ensures.left;
       first = λ l f. absurd (idle_not c.give.result Failed (gives_fresh l d d2 (stage_now c.args.stage) c.args.at.now.0 c.give.result f c.give.ensures.gives).0 c.in-Failed.is (λ e. cc));
     }

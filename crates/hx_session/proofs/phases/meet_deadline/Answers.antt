@@ -1,4 +1,4 @@
-use Rattle.std.proofs.Common.{List, map, refl, sym, ap, subst, inl}
+use Rattle.std.proofs.Common.{List, map, refl, sym, ap, subst, inl, ◌∙◌}
 use Rattle.hx_link.specs.Nets.{NetState}
 use Rattle.hx_pool.specs.SeatView.{History}
 use Rattle.hx_session.specs.Desks.{desk_now, DeskNow}
@@ -11,7 +11,7 @@ use Rattle.hx_connecting.specs.Journals.{room_of}
 use Rattle.hx_connecting.proofs.RoomLemmas.{rooms_none}
 use Rattle.hx_session.specs.Seen.{conn_seen}
 use Rattle.hx_session.proofs.PickLemmas.{kind_self}
-use Rattle.hx_session.proofs.FirstLemmas.{fresh_desk}
+use Rattle.hx_session.proofs.FirstLemmas.{fresh_desk, fresh_late}
 use Rattle.hx_session.proofs.phases.meet_deadline.Goals as goal
 
 pub returns-in-None : goal.returns-in-None
@@ -32,6 +32,7 @@ returns-in-None g c =
         told = subst (λ (x : DeskNow). IsStillTold d s x s) (sym same) (still_same d s);
       };
       rooms = rooms_none g.S.HasHistory.history (room_of g.S.HasHistory.kept_from g.S.HasHistory.spare) c.args.seats.now;
+      own = λ status taken k. (ap (λ (x : DeskNow). x.client.taken_count) same ∙ k.0, k.1);
       left = tt;
       first = λ f one. inl (fresh_desk (g.L.Link.state c.args.desk.now.client) d d2 s same f);
     }

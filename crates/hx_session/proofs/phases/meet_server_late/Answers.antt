@@ -1,6 +1,6 @@
 use Rattle.hx_connecting.specs.Journals.{room_of}
 use Rattle.hx_connecting.proofs.RoomLemmas.{rooms_none}
-use Rattle.std.proofs.Common.{refl, sym, subst, List, map}
+use Rattle.std.proofs.Common.{refl, sym, subst, List, map, ap}
 use Rattle.hx_pool.specs.SeatView.{History}
 use Rattle.hx_session.specs.declared.stage.Stage.{Stage}
 use Rattle.hx_session.specs.declared.stage.Stage.TheVariants.{Choosing, Answering}
@@ -12,6 +12,8 @@ use Rattle.hx_session.specs.Standing.{Goes, IsPlaced}
 use Rattle.hx_session.proofs.PartLemmas.{goes_still}
 use Rattle.hx_session.specs.Exchanged.{exchange_now}
 use Rattle.hx_session.proofs.LeavingLemmas.{told_leaves}
+use Rattle.hx_session.specs.Seen.{own_seen}
+use Rattle.hx_session.proofs.OwningLemmas.{none_own}
 use Rattle.hx_session.proofs.phases.meet_server_late.Goals as goal
 
 pub returns-in-Reading-clause-rooms : goal.returns-in-Reading-clause-rooms
@@ -46,3 +48,6 @@ returns-in-Exchanging-clause-left g c = λ limits moment.
     let d : DeskNow = desk_now g.L.Link.state c.args.desk.now in
     let d2 : DeskNow = desk_now g.L.Link.state c.end_by_server.new.desk in
     told_leaves limits moment d d2 d2 (exchange_now c.in-Exchanging.exchange) c.end_by_server.result c.end_by_server.ensures.goes.told
+
+pub returns-in-Exchanging-clause-own : goal.returns-in-Exchanging-clause-own
+returns-in-Exchanging-clause-own g c = λ status taken k. absurd (none_own (own_seen (stage_now c.args.stage)) status (ap (λ (x : Stage g.row.L.Denot). own_seen (stage_now x)) c.in-Exchanging.is) k.1)

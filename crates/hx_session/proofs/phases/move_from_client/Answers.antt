@@ -13,6 +13,8 @@ use Rattle.hx_connecting.proofs.RoomLemmas.{rooms_none}
 use Rattle.hx_session.specs.Picking.{Picks}
 use Rattle.hx_session.proofs.PickLemmas.{picks_then}
 use Rattle.hx_session.specs.First.{FreshOn}
+use Rattle.hx_session.specs.Owning.{CameOwn}
+use Rattle.hx_session.proofs.OwningLemmas.{wants_own}
 use Rattle.hx_session.proofs.phases.move_from_client.Goals as goal
 
 pub returns-clause-told : goal.returns-clause-told
@@ -51,3 +53,8 @@ returns-clause-first g c = λ l f. c.take_some.ensures.first l (subst (λ (x : C
 
 pub returns-clause-left : goal.returns-clause-left
 returns-clause-left g c = λ limits moment k. c.take_some.ensures.left limits moment
+
+pub returns-clause-own : goal.returns-clause-own
+returns-clause-own g c = λ status taken k.
+    let on = subst (λ (x : Came g.row.L.Denot). CameOwn status taken (desk_now g.L.Link.state c.args.desk.now) x) c.in-On.is k in
+    absurd (wants_own (stage_now c.in-On.stage) status (c.reads_client.ensures.0 c.if-not-reads_client.false) on.1)

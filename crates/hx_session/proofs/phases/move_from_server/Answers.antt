@@ -20,6 +20,9 @@ use Rattle.hx_session.proofs.PickLemmas.{picks_then}
 use Rattle.hx_session.specs.First.{ReadOn}
 use Rattle.hx_session.proofs.FirstLemmas.{read_not, read_was}
 use Rattle.hx_session.proofs.LeavingLemmas.{told_leaves}
+use Rattle.hx_session.specs.Owning.{CameOwn}
+use Rattle.hx_session.specs.Seen.{own_seen}
+use Rattle.hx_session.proofs.OwningLemmas.{none_own}
 use Rattle.hx_session.proofs.phases.move_from_server.Goals as goal
 
 pub returns-clause-routed : goal.returns-clause-routed
@@ -80,3 +83,8 @@ returns-clause-left g c = λ limits moment k.
     let d : DeskNow = desk_now g.L.Link.state c.args.desk.now in
     let d2 : DeskNow = desk_now g.L.Link.state c.read_some.new.desk in
     told_leaves limits moment d d2 d2 (exchange_now c.in-Exchanging.exchange) c.read_some.result c.read_some.ensures.goes.told
+
+pub returns-clause-own : goal.returns-clause-own
+returns-clause-own g c = λ status taken k.
+    let on = subst (λ (x : Came g.row.L.Denot). CameOwn status taken (desk_now g.L.Link.state c.args.desk.now) x) c.in-On.is k in
+    absurd (none_own (own_seen (stage_now c.in-On.stage)) status (ap (λ (x : Stage g.row.L.Denot). own_seen (stage_now x)) c.in-Exchanging.is) on.1)

@@ -1,4 +1,4 @@
-use Rattle.std.proofs.Common.{subst, List, map}
+use Rattle.std.proofs.Common.{subst, List, map, ap}
 use Rattle.hx_session.specs.declared.stage.Came.{Came}
 use Rattle.hx_session.specs.declared.stage.Stage.{Stage}
 use Rattle.hx_session.specs.Desks.{desk_now, DeskNow}
@@ -20,6 +20,9 @@ use Rattle.hx_session.proofs.PickLemmas.{picks_then}
 use Rattle.hx_session.specs.First.{FreshOn, IsFresh}
 use Rattle.hx_session.proofs.FirstLemmas.{fresh_not}
 use Rattle.hx_session.proofs.LeavingLemmas.{told_leaves}
+use Rattle.hx_session.specs.Owning.{CameOwn}
+use Rattle.hx_session.specs.Seen.{own_seen}
+use Rattle.hx_session.proofs.OwningLemmas.{none_own}
 use Rattle.hx_session.proofs.phases.move_to_server.Goals as goal
 
 pub returns-clause-routed : goal.returns-clause-routed
@@ -74,3 +77,8 @@ returns-clause-left g c = λ limits moment k.
     let d : DeskNow = desk_now g.L.Link.state c.args.desk.now in
     let d2 : DeskNow = desk_now g.L.Link.state c.send_some.new.desk in
     told_leaves limits moment d d2 d2 (exchange_now c.in-Exchanging.exchange) c.send_some.result c.send_some.ensures.goes.told
+
+pub returns-clause-own : goal.returns-clause-own
+returns-clause-own g c = λ status taken k.
+    let on = subst (λ (x : Came g.row.L.Denot). CameOwn status taken (desk_now g.L.Link.state c.args.desk.now) x) c.in-On.is k in
+    absurd (none_own (own_seen (stage_now c.in-On.stage)) status (ap (λ (x : Stage g.row.L.Denot). own_seen (stage_now x)) c.in-Exchanging.is) on.1)

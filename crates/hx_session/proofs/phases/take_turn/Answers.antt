@@ -15,6 +15,8 @@ use Rattle.hx_session.specs.Seen.{conn_seen, chosen_seen}
 use Rattle.hx_session.proofs.PickLemmas.{so_turn, so_same}
 use Rattle.hx_session.specs.First.{FreshOn}
 use Rattle.hx_session.proofs.FirstLemmas.{turn_fresh}
+use Rattle.hx_session.specs.Owning.{CameOwn}
+use Rattle.hx_session.proofs.OwningLemmas.{turn_own}
 use Rattle.hx_session.proofs.phases.take_turn.Goals as goal
 
 pub returns-clause-placed : goal.returns-clause-placed
@@ -78,3 +80,9 @@ returns-clause-first g c = λ l d f.
     let h = g.S.HasHistory.history in
     turn_fresh l d c.args.back.now.servers c.args.turn.now c.choose_server.new.turn (map h c.args.seats.now) (map h c.choose_server.new.seats) (stage_now c.in-On.stage) (stage_now c.choose_server.result) c.choose_server.ensures.chooses
     (subst (λ (x : Came g.row.L.Denot). FreshOn l d x) c.in-On.is f)
+
+pub returns-clause-own : goal.returns-clause-own
+returns-clause-own g c = λ status taken d k.
+    let h = g.S.HasHistory.history in
+    turn_own status taken d c.args.back.now.servers c.args.turn.now c.choose_server.new.turn (map h c.args.seats.now) (map h c.choose_server.new.seats) (stage_now c.in-On.stage) (stage_now c.choose_server.result)
+    c.choose_server.ensures.chooses (subst (λ (x : Came g.row.L.Denot). CameOwn status taken d x) c.in-On.is k)

@@ -1,5 +1,8 @@
+use Rattle.std.proofs.Common.{sym, subst}
 use Rattle.hx_run.proofs.Going.{steps_there}
 use Rattle.hx_run.proofs.Working.{stepped_run}
+use Rattle.hx_run.specs.Courses.{HasCourse}
+use Rattle.hx_run.proofs.Coursing.{stepped_course}
 use Rattle.hx_run.proofs.running.Running.step.Goals as goal
 
 pub invariant_of-self-in_err-tell : goal.invariant_of-self-in_err-tell
@@ -12,3 +15,7 @@ invariant_of-self-2 c =
 
 pub returns-clause-stays : goal.returns-clause-stays
 returns-clause-stays c = λ no. steps_there _ _ _ _ _ _ c.step-step.ensures.steps no
+
+pub returns-clause-course : goal.returns-clause-course
+returns-clause-course c = λ h.
+    stepped_course _ _ _ _ _ _ _ _ _ c.make_room.ensures.same c.step-step.ensures.steps c.make_room.ensures.working.seats c.step-step.ensures.seats c.in_ok-tell.ensures (subst HasCourse (sym c.self.view_is) h)

@@ -1,4 +1,7 @@
+use Rattle.std.proofs.Common.{sym, subst}
 use Rattle.hx_run.proofs.Working.{stopped_run}
+use Rattle.hx_run.specs.Courses.{HasCourse}
+use Rattle.hx_run.proofs.Coursing.{none_course, stopped_course}
 use Rattle.hx_run.proofs.running.Running.stop_one.Goals as goal
 
 pub invariant_of-self-in_err-tell-in-Some : goal.invariant_of-self-in_err-tell-in-Some
@@ -8,3 +11,11 @@ invariant_of-self-in_err-tell-in-Some c =
 pub invariant_of-self-in-Some : goal.invariant_of-self-in-Some
 invariant_of-self-in-Some c =
     stopped_run _ _ _ _ _ _ _ c.self.invariant c.make_room.ensures.working c.in_ok-make_room.ensures.room c.stop_next.ensures.stops c.in-Some.is c.stop_next.ensures.seats
+
+pub returns-in_ok-tell-in-Some-clause-course : goal.returns-in_ok-tell-in-Some-clause-course
+returns-in_ok-tell-in-Some-clause-course c = λ h.
+    stopped_course _ _ _ _ _ _ _ _ _ c.make_room.ensures.same c.stop_next.ensures.stops c.in-Some.is c.make_room.ensures.working.seats c.in_ok-tell-in-Some.ensures (subst HasCourse (sym c.self.view_is) h)
+
+pub returns-in-None-clause-course : goal.returns-in-None-clause-course
+returns-in-None-clause-course c = λ h.
+    none_course _ _ _ _ _ _ _ c.make_room.ensures.same c.stop_next.ensures.stops c.in-None.is (subst HasCourse (sym c.self.view_is) h)

@@ -39,6 +39,7 @@ use Rattle.hx_session.specs.Picked.{StepPicks}
 use Rattle.hx_session.specs.Picking.{PicksAll}
 use Rattle.hx_session.proofs.ChosenLemmas.{step_picks}
 use Rattle.hx_session.proofs.EntryLemmas.{below}
+use Rattle.hx_config.specs.declared.parts.Front.{Front}
 use Rattle.hx_base.specs.declared.numbers.Millis.{Millis}
 use Rattle.std.specs.Prelude.{Option}
 use Rattle.hx_session.specs.Causes.{CanBeLate, HasCome}
@@ -51,6 +52,9 @@ use Rattle.hx_session.specs.Causes.{Limits, LeavesFor}
 use Rattle.hx_session.specs.Fits.{limits_with}
 use Rattle.hx_session.specs.Leaving.{LeavesBy}
 use Rattle.hx_session.proofs.LeavingLemmas.{leaves_for_cause, limits_same}
+use Rattle.hx_session.specs.Deciding.{KeepsOwn}
+use Rattle.hx_session.specs.Owning.{DoneOwn, OwnAt}
+use Rattle.hx_session.proofs.OwningLemmas.{keeps_own}
 use Rattle.hx_session.proofs.session.Session.step.Goals as goal
 
 pub advance-stage-requires : goal.advance-stage-requires
@@ -115,7 +119,7 @@ returns-clause-tells g c = λ going.
     let front = c.self.inside.front in
     let done = c.advance-stage.result in
     let some = sound_one d s c.self.invariant (ap (λ (x : SessionNow). x.over) c.self.view_is ∙ going) in
-    let told = subst (λ (x : Stage g.row.L.Denot). DoneTells d (stage_now x) d2 done.served done.left) c.replace-stage.ensures.value c.advance-stage.ensures.told in
+    let told = subst (λ (x : Stage g.row.L.Denot). DoneTells d (stage_now x) d2 (stage_now done.stage) done.served done.left) c.replace-stage.ensures.value c.advance-stage.ensures.told in
     subst (λ (x : SessionNow). StepTold x (session_seen front d2 (stage_now done.stage)) done.left done.served) c.self.view_is
     (step_told front d d2 s (stage_now done.stage) news done.waits done.served done.left some told c.advance-stage.ensures.done)
 
@@ -179,7 +183,7 @@ returns-clause-links g c = λ goes.
     let after : Around = around_with news (slice_set c.args.turns.now scene.front.now.back c.advance-stage.new.turn) net2 in
     let w = subst (λ (x : Stage g.row.L.Denot). SomeWay d.worker d.session (first_of d) (conn_seen (stage_now x)) (conn_seen s2) (outcome_of s2) olds news net net2 done.served) value c.advance-stage.ensures.touches in
     let some = sound_one d s c.self.invariant going.going in
-    let told = subst (λ (x : Stage g.row.L.Denot). DoneTells d (stage_now x) d2 done.served done.left) value c.advance-stage.ensures.told in
+    let told = subst (λ (x : Stage g.row.L.Denot). DoneTells d (stage_now x) d2 (stage_now done.stage) done.served done.left) value c.advance-stage.ensures.told in
     let records = (step_told front d d2 s s2 news done.waits done.served done.left some told c.advance-stage.ensures.done).records in
     subst (λ (x : SessionNow). StepLinks x (session_seen front d2 s2) before after r) c.self.view_is
     (step_links front d d2 s s2 before after r keeps.who.worker keeps.who.session keeps.loop_no e.placed.set.own
@@ -267,9 +271,20 @@ returns-clause-leaves g c = λ going.
     let config = c.args.config.now in
     let now = c.args.now.0 in
     let scene = c.scene_of-scene in
-    let told = subst (λ (x : Stage g.row.L.Denot). DoneTells d (stage_now x) d2 done.served done.left) c.replace-stage.ensures.value c.advance-stage.ensures.told in
+    let told = subst (λ (x : Stage g.row.L.Denot). DoneTells d (stage_now x) d2 (stage_now done.stage) done.served done.left) c.replace-stage.ensures.value c.advance-stage.ensures.told in
     let left = subst (λ (m : Millis). IfSome done.left (λ l. LeavesBy (limits_with (Some scene.result.front.now) (Some scene.result.back.now)) m.0 d2 l.cause)) scene.ensures.now c.advance-stage.ensures.left in
     let limits = limits_same (meaning config) front scene.result.front.now scene.result.back.now scene.ensures.front scene.ensures.back in
     subst (λ (x : SessionNow). IfSome done.left (λ l. LeavesFor (limits_of (meaning config) x.front) x (session_seen front d2 s2) done.served now l.cause)) c.self.view_is
     (subst (λ (k : Limits). IfSome done.left (λ l. LeavesFor k (session_seen front d s) (session_seen front d2 s2) done.served now l.cause)) (sym limits)
     (leaves_for_cause (limits_with (Some scene.result.front.now) (Some scene.result.back.now)) now front d d2 s s2 done.served done.left c.advance-stage.ensures.keeps.who.since told left))
+
+pub returns-clause-keeps : goal.returns-clause-keeps
+returns-clause-keeps g c = λ going.
+    let front = c.self.inside.front in
+    let d : DeskNow = desk_now g.L.Link.state c.self.inside.desk in
+    let d2 : DeskNow = desk_now g.L.Link.state c.advance-stage.new.desk in
+    let s : StageNow = stage_now c.self.inside.stage in
+    let done = c.advance-stage.result in
+    let s2 : StageNow = stage_now done.stage in
+    let own = subst (λ (x : Stage g.row.L.Denot). (status taken : ℕ) → OwnAt status taken d (stage_now x) → DoneOwn status taken d2 s2 done.served) c.replace-stage.ensures.value c.advance-stage.ensures.own in
+    subst (λ (x : SessionNow). KeepsOwn x (session_seen front d2 s2) done.served) c.self.view_is (keeps_own front d d2 s s2 done.served own)

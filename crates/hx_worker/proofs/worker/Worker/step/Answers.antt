@@ -11,10 +11,10 @@ use Rattle.hx_numbered.specs.Numbers.{with_value}
 use Rattle.hx_session.specs.Fits.{SeatsServe, TurnsFit}
 use Rattle.hx_worker.specs.Workers.{WorkerNow, worker_now, HasSeats, session_of}
 use Rattle.hx_worker.specs.Listed.{sessions_of}
-use Rattle.hx_worker.specs.Steps.{Steps}
+use Rattle.hx_worker.specs.Steps.{Steps, StepsAt, IsTimely}
 use Rattle.hx_worker.proofs.Items.{value_is, with_found}
 use Rattle.hx_worker.proofs.Keeping.{may_call, none_there}
-use Rattle.hx_worker.proofs.Stepping.{StepDone, stays_here, gone_here, taken_out, not_ended}
+use Rattle.hx_worker.proofs.Stepping.{going_there, StepDone, stays_here, gone_here, taken_out, not_ended}
 use Rattle.hx_worker.proofs.worker.Worker.step.Goals as goal
 use Rattle.hx_worker.proofs.worker.Worker.step.Goals.{After-bury, In-Nothing}
 
@@ -56,7 +56,7 @@ end-requires g c =
 
 -- where the session goes on
 on : (g : _) (c : In-Nothing g)
-    → StepDone (worker_now c.self.inside.thread (meaning c.self.inside.config.now) (map g.S.HasHistory.history c.self.inside.seats.items)
+    → StepDone (λ s a. IsTimely (meaning c.self.inside.config.now) s a c.args.now.0 c.step-step.result) (worker_now c.self.inside.thread (meaning c.self.inside.config.now) (map g.S.HasHistory.history c.self.inside.seats.items)
     (map (room_of g.S.HasHistory.kept_from g.S.HasHistory.spare) c.self.inside.seats.items) c.self.inside.turns.items c.self.inside.last (sessions_of c.self.inside.sessions.items))
     (worker_now c.self.inside.thread (meaning c.self.inside.config.now) (map g.S.HasHistory.history (with_items c.self.inside.seats c.step-step.new.seats).items)
     (map (room_of g.S.HasHistory.kept_from g.S.HasHistory.spare) (with_items c.self.inside.seats c.step-step.new.seats).items) (with_items c.self.inside.turns c.step-step.new.turns).items c.self.inside.last (sessions_of (with_value c.self.inside.sessions.items c.args.n.0 c.step-step.new.self)))
@@ -66,15 +66,15 @@ on g c =
     let xs = with_items i.seats c.step-step.new.seats in let ts = with_items i.turns c.step-step.new.turns in
     let a = with_items_is i.seats c.step-step.new.seats (e.sizes.0 ∙ c.as_mut_slice.ensures.len) in
     let b = with_items_is i.turns c.step-step.new.turns (e.sizes.1 ∙ c.as_mut_slice-2.ensures.len) in
-    stays_here h f i.thread (meaning i.config.now) i.last i.sessions.items c.as_mut_slice.result.now i.seats.items c.step-step.new.seats xs.items
+    stays_here (λ s a. IsTimely (meaning c.self.inside.config.now) s a c.args.now.0 c.step-step.result) h f i.thread (meaning i.config.now) i.last i.sessions.items c.as_mut_slice.result.now i.seats.items c.step-step.new.seats xs.items
     c.as_mut_slice-2.result.now i.turns.items c.step-step.new.turns ts.items (g.N.Net.state c.args.net.now) (g.N.Net.state c.step-step.new.net) c.args.n c.step-step.result
     c.in-Some.session.now c.step-step.new.self c.as_mut_slice.ensures.value c.as_mut_slice-2.ensures.value (sym a) (sym b) c.in-Some.ensures.value
-    (record { same = e.same; adds = e.adds; links = e.links; chooses = e.chooses; tells = e.tells; ended = e.ended; turns = e.turns; going = e.going; left = e.left; holds = e.holds; serve = e.seats })
-    e.journals c.self.invariant.under c.self.invariant.has (not_ended c.step-step.result.waits c.in-Nothing.is)
+    (record { same = e.same; adds = e.adds; links = e.links; chooses = e.chooses; tells = e.tells; keeps = e.keeps; ended = e.ended; turns = e.turns; going = e.going; left = e.left; holds = e.holds; serve = e.seats })
+    e.journals c.self.invariant.under c.self.invariant.has (record { first = e.first; leaves = e.leaves (going_there i.sessions.items c.args.n.0 c.in-Some.session.now _ (meaning i.config.now) c.self.invariant.under c.self.invariant.has c.in-Some.ensures.value) }) (not_ended c.step-step.result.waits c.in-Nothing.is)
 
 -- where it is gone
 off : (g : _) (c : After-bury g)
-    → StepDone (worker_now c.self.inside.thread (meaning c.self.inside.config.now) (map g.S.HasHistory.history c.self.inside.seats.items)
+    → StepDone (λ s a. IsTimely (meaning c.self.inside.config.now) s a c.args.now.0 c.step-step.result) (worker_now c.self.inside.thread (meaning c.self.inside.config.now) (map g.S.HasHistory.history c.self.inside.seats.items)
     (map (room_of g.S.HasHistory.kept_from g.S.HasHistory.spare) c.self.inside.seats.items) c.self.inside.turns.items c.self.inside.last (sessions_of c.self.inside.sessions.items))
     (worker_now c.self.inside.thread (meaning c.self.inside.config.now) (map g.S.HasHistory.history (with_items c.self.inside.seats c.step-step.new.seats).items)
     (map (room_of g.S.HasHistory.kept_from g.S.HasHistory.spare) (with_items c.self.inside.seats c.step-step.new.seats).items) (with_items c.self.inside.turns c.step-step.new.turns).items c.self.inside.last (sessions_of c.remove.new.self.items))
@@ -84,11 +84,11 @@ off g c =
     let xs = with_items i.seats c.step-step.new.seats in let ts = with_items i.turns c.step-step.new.turns in
     let a = with_items_is i.seats c.step-step.new.seats (e.sizes.0 ∙ c.as_mut_slice.ensures.len) in
     let b = with_items_is i.turns c.step-step.new.turns (e.sizes.1 ∙ c.as_mut_slice-2.ensures.len) in
-    gone_here h f i.thread (meaning i.config.now) i.last i.sessions.items c.as_mut_slice.result.now i.seats.items c.step-step.new.seats xs.items
+    gone_here (λ s a. IsTimely (meaning c.self.inside.config.now) s a c.args.now.0 c.step-step.result) h f i.thread (meaning i.config.now) i.last i.sessions.items c.as_mut_slice.result.now i.seats.items c.step-step.new.seats xs.items
     c.as_mut_slice-2.result.now i.turns.items c.step-step.new.turns ts.items (g.N.Net.state c.args.net.now) (g.N.Net.state c.step-step.new.net) c.args.n c.step-step.result
     c.in-Some.session.now c.step-step.new.self c.as_mut_slice.ensures.value c.as_mut_slice-2.ensures.value (sym a) (sym b) c.in-Some.ensures.value
-    (record { same = e.same; adds = e.adds; links = e.links; chooses = e.chooses; tells = e.tells; ended = e.ended; turns = e.turns; going = e.going; left = e.left; holds = e.holds; serve = e.seats })
-    e.journals c.self.invariant.under c.self.invariant.has
+    (record { same = e.same; adds = e.adds; links = e.links; chooses = e.chooses; tells = e.tells; keeps = e.keeps; ended = e.ended; turns = e.turns; going = e.going; left = e.left; holds = e.holds; serve = e.seats })
+    e.journals c.self.invariant.under c.self.invariant.has (record { first = e.first; leaves = e.leaves (going_there i.sessions.items c.args.n.0 c.in-Some.session.now _ (meaning i.config.now) c.self.invariant.under c.self.invariant.has c.in-Some.ensures.value) })
     c.remove.new.self.items (g.N.Net.state c.bury.new.self) (g.L.Link.state c.end.result) c.in-Ended.is c.remove.ensures.rest
     (c.end.ensures
     ∙ ap (λ (s : SessionNow). s.client)
@@ -107,6 +107,12 @@ returns-in-Some-remove-clause-steps g c =
     (map (room_of g.S.HasHistory.kept_from g.S.HasHistory.spare) (with_items c.self.inside.seats c.step-step.new.seats).items) (with_items c.self.inside.turns c.step-step.new.turns).items c.self.inside.last (sessions_of c.remove.new.self.items))
     (g.N.Net.state c.args.net.now) (g.N.Net.state c.bury.new.self) c.args.n c.step-step.result) c.self.view_is (off g c).steps
 
+pub returns-in-Some-remove-clause-timely : goal.returns-in-Some-remove-clause-timely
+returns-in-Some-remove-clause-timely g c =
+    subst (λ (v : WorkerNow). StepsAt v (worker_now c.self.inside.thread (meaning c.self.inside.config.now) (map g.S.HasHistory.history (with_items c.self.inside.seats c.step-step.new.seats).items)
+    (map (room_of g.S.HasHistory.kept_from g.S.HasHistory.spare) (with_items c.self.inside.seats c.step-step.new.seats).items) (with_items c.self.inside.turns c.step-step.new.turns).items c.self.inside.last (sessions_of c.remove.new.self.items))
+    (g.N.Net.state c.args.net.now) (g.N.Net.state c.bury.new.self) c.args.n c.args.now.0 c.step-step.result) c.self.view_is ((off g c).steps, (off g c).timely)
+
 pub returns-in-Some-remove-clause-seats : goal.returns-in-Some-remove-clause-seats
 returns-in-Some-remove-clause-seats g c = (off g c).seats (subst HasSeats (sym c.self.view_is) c.requires.seats)
 
@@ -115,5 +121,8 @@ returns-in-Nothing g c = record {
   steps = subst (λ (v : WorkerNow). Steps v (worker_now c.self.inside.thread (meaning c.self.inside.config.now) (map g.S.HasHistory.history (with_items c.self.inside.seats c.step-step.new.seats).items)
       (map (room_of g.S.HasHistory.kept_from g.S.HasHistory.spare) (with_items c.self.inside.seats c.step-step.new.seats).items) (with_items c.self.inside.turns c.step-step.new.turns).items c.self.inside.last (sessions_of (with_value c.self.inside.sessions.items c.args.n.0 c.step-step.new.self)))
       (g.N.Net.state c.args.net.now) (g.N.Net.state c.step-step.new.net) c.args.n c.step-step.result) c.self.view_is (on g c).steps;
+  timely = subst (λ (v : WorkerNow). StepsAt v (worker_now c.self.inside.thread (meaning c.self.inside.config.now) (map g.S.HasHistory.history (with_items c.self.inside.seats c.step-step.new.seats).items)
+      (map (room_of g.S.HasHistory.kept_from g.S.HasHistory.spare) (with_items c.self.inside.seats c.step-step.new.seats).items) (with_items c.self.inside.turns c.step-step.new.turns).items c.self.inside.last (sessions_of (with_value c.self.inside.sessions.items c.args.n.0 c.step-step.new.self)))
+      (g.N.Net.state c.args.net.now) (g.N.Net.state c.step-step.new.net) c.args.n c.args.now.0 c.step-step.result) c.self.view_is ((on g c).steps, (on g c).timely);
   seats = (on g c).seats (subst HasSeats (sym c.self.view_is) c.requires.seats);
 }

@@ -1,0 +1,13 @@
+-- What holds of all that was told in a replay so far, and that its calls keep it.
+use Rattle.std.specs.Prelude.{List}
+use Rattle.hx_course.specs.Courses.{KeepsCourse}
+use Rattle.hx_course.specs.Graves.{Grave}
+use Rattle.hx_run.specs.Runs.{RunNow}
+
+-- its records and the links that its net buried, whoever's they were, are those of a course of its worker's calls
+abbrev pub HasCourse : RunNow → Type 0
+HasCourse r = (graves : List Grave) × KeepsCourse r.worker r.net.state r.records graves
+
+-- a call keeps that
+abbrev pub KeepsOn : RunNow → RunNow → Type 0
+KeepsOn a b = HasCourse a → HasCourse b
