@@ -1,28 +1,26 @@
 -- What a sweep does, in the words of all seats.
 use Rattle.std.proofs.Common.{◌≡◌, ◌≢◌, ℕ, ◌+◌, ◌*◌, ◌<◌, ◌≤◌, false, inr, List, [], ◌∷◌, ◌++◌, refl, sym, ap, ◌∙◌, subst, arith, Option}
 use Rattle.std.proofs.lemmas.List.{length-append}
-use Rattle.hx_base.specs.declared.numbers.ThreadNo.{ThreadNo}
 use Rattle.hx_base.specs.declared.numbers.PlaceNo.{PlaceNo}
 use Rattle.hx_base.specs.Shown.{Shown}
-use Rattle.hx_pool.specs.declared.board.BoardTerms.{BoardTerms}
 use Rattle.hx_pool.specs.declared.budget.Quota.{Quota}
-use Rattle.hx_pool.specs.declared.entries.Entry.TheVariants.{SetGate, Round, Count}
+use Rattle.hx_pool.specs.declared.entries.Entry.TheVariants.{SetGate, Round}
 use Rattle.hx_pool.specs.declared.entries.Note.{Note}
 use Rattle.hx_pool.specs.History.{plain, IsEven}
 use Rattle.hx_pool.specs.SeatView.{Makes, Grows}
 use Rattle.hx_pool.specs.Causes.{place_of, nth_place, caretaker}
-use Rattle.hx_pool.specs.Purge.{Passes, PurgesOne, PurgesNone}
+use Rattle.hx_pool.specs.Purge.{PurgesOne, PurgesNone}
 use Rattle.hx_pool.specs.Taking.{taken, taking}
 use Rattle.hx_pool.specs.Taking.{Takes as TakesIn}
 use Rattle.hx_pool.proofs.Histories.{even-append}
 use Rattle.hx_pool.proofs.Calls.{looks_even, looks_marks, marks_taking}
 use Rattle.hx_places.specs.Turns.{first_turn}
-use Rattle.hx_places.specs.Seats.{PlaceView, about, history_of, Notes}
+use Rattle.hx_places.specs.Seats.{PlaceView, history_of, Notes}
 use Rattle.hx_rows.specs.declared.stays.Stay.{Stay}
 use Rattle.hx_rows.specs.Row.{IsRowOf}
 use Rattle.hx_rows.specs.Steps.{Steps, IsAtRest}
 use Rattle.hx_rows.proofs.Resting.{no_parks_both}
-use Rattle.hx_rows.proofs.Stepping.{notes_steps, note_steps, steps_both, turn_steps, makes_of, calls_of}
+use Rattle.hx_rows.proofs.Stepping.{notes_steps, turn_steps, makes_of, calls_of}
 use Rattle.hx_rows.proofs.Taking.{row_then}
 use Rattle.hx_rows.proofs.Trying.{looks_no_parks}
 use Rattle.hx_takeover.specs.Takeover.{GrowsBy}

@@ -1,6 +1,5 @@
 -- What a seat's drain has passed, some entries on.
 use Rattle.std.proofs.Common.{◌≡◌, ◌≢◌, ℕ, ◌+◌, ◌*◌, ◌<◌, ◌≤◌, true, false, inl, inr, ⊎_elim, List, [], ◌∷◌, ◌++◌, refl, sym, ap, ◌∙◌, subst, arith, Option, Some, None, IfSome, append_assoc, le_refl}
-use Rattle.std.specs.Prelude.{MatchOption}
 use Rattle.std.proofs.lemmas.List.{append-nil}
 use Rattle.std.proofs.lemmas.Bool.{cases_eq}
 use Rattle.hx_base.specs.declared.numbers.ThreadNo.{ThreadNo}
@@ -8,12 +7,10 @@ use Rattle.hx_base.specs.declared.numbers.PlaceNo.{PlaceNo}
 use Rattle.hx_base.specs.Shown.{Shown}
 use Rattle.hx_pool.specs.declared.board.BoardTerms.{BoardTerms}
 use Rattle.hx_pool.specs.declared.entries.Entry.{Entry}
-use Rattle.hx_pool.specs.declared.entries.Found.{Found}
 use Rattle.hx_pool.specs.declared.entries.Entry.TheVariants.{SetGate, Look}
 use Rattle.hx_pool.specs.declared.entries.Note.{Note}
 use Rattle.hx_pool.specs.History.{plain}
-use Rattle.hx_pool.specs.SeatView.{About}
-use Rattle.hx_pool.specs.Causes.{nth_place, caretaker, Among, AllLooks, IsTakeAt, IsCovered, AllCovered}
+use Rattle.hx_pool.specs.Causes.{nth_place, caretaker, AllLooks, IsTakeAt, IsCovered, AllCovered}
 use Rattle.hx_pool.specs.Drain.{since_after, since_from, since_drain, DrainsOne, DrainsNone}
 use Rattle.hx_pool.specs.Taking.{taking}
 use Rattle.hx_pool.proofs.Histories.{since_from-append}
