@@ -10,6 +10,7 @@ use Rattle.hx_pool.specs.declared.entries.Entry.{Entry}
 use Rattle.hx_pool.specs.declared.entries.Entry.TheVariants.{SetGate, Look}
 use Rattle.hx_pool.specs.declared.entries.Note.{Note}
 use Rattle.hx_pool.specs.History.{plain}
+use Rattle.hx_pool.specs.SeatView.{About, about_of}
 use Rattle.hx_pool.specs.Causes.{nth_place, caretaker, AllLooks, IsTakeAt, IsCovered, AllCovered}
 use Rattle.hx_pool.specs.Drain.{since_after, since_from, since_drain, DrainsOne, DrainsNone}
 use Rattle.hx_pool.specs.Taking.{taking}
@@ -65,7 +66,7 @@ since_longer : (mine ys es : List Note) → since_drain mine ≡ Some es → NoD
 since_longer mine ys es d n = since_from-append None mine ys ∙ (ap (λ o. since_from o ys) d ∙ since_some es ys n)
 
 -- places further on are covered by the new entries
-module _ (s0 s1 : PlaceView) (ys : List Note) (S : Steps s0 s1 ys) (n : NoDrain ys) (from to : ℕ) (c : Covers s0 from) (far : to ≤ 64 * s0.view.terms.threads)
+module _ (s0 s1 : PlaceView) (ys : List Note) (one : about s1 ≡ about s0) (mine : s1.view.mine ≡ s0.view.mine ++ ys) (n : NoDrain ys) (from to : ℕ) (c : Covers s0 from) (far : to ≤ 64 * s0.view.terms.threads)
     (more : (i : ℕ) → from ≤ i → i < to → IsCovered s0.view.thread ys (nth_place s0.view.thread s0.view.terms.threads i)) where
   abbrev t : ThreadNo
   t = s0.view.thread
@@ -83,20 +84,24 @@ module _ (s0 s1 : PlaceView) (ys : List Note) (S : Steps s0 s1 ys) (n : NoDrain 
       (le_cases from i)
 
   pub since_then : since_drain s1.view.mine ≡ Some (c.es ++ ys)
-  since_then = ap since_drain S.mine ∙ since_longer s0.view.mine ys c.es c.since n
+  since_then = ap since_drain mine ∙ since_longer s0.view.mine ys c.es c.since n
 
   pub covers_then : Covers s1 to
   covers_then = record {
-    few = subst (λ (b : BoardTerms). to ≤ 64 * b.threads) (sym S.terms) far;
+    few = subst (λ (a : About). to ≤ 64 * a.threads) (sym one) far;
     es = c.es ++ ys;
     since = since_then;
-    covered = subst (λ (z : ThreadNo × BoardTerms). (i : ℕ) → i < to → IsCovered z.0 (c.es ++ ys) (nth_place z.0 z.1.threads i)) (λ i. (sym S.thread i, sym S.terms i)) cover_then;
+    covered = subst (λ (a : About). (i : ℕ) → i < to → IsCovered a.thread (c.es ++ ys) (nth_place a.thread a.threads i)) (sym one) cover_then;
   }
 
 -- entries that set no drain leave a seat's drain as it was
-pub drains_more : (s0 s1 : PlaceView) (ys : List Note) (q : Option ℕ) → Steps s0 s1 ys → NoDrain ys → Drains s0 q → Drains s1 q
-drains_more s0 s1 ys None S n d = ap since_drain S.mine ∙ (since_from-append None s0.view.mine ys ∙ (ap (λ o. since_from o ys) d ∙ since_none ys n))
-drains_more s0 s1 ys (Some q) S n d = covers_then s0 s1 ys S n q q d d.few (λ i h j. absurd (omega arith))
+pub drains_more : (s0 s1 : PlaceView) (ys : List Note) (q : Option ℕ) → about s1 ≡ about s0 → s1.view.mine ≡ s0.view.mine ++ ys → NoDrain ys → Drains s0 q → Drains s1 q
+drains_more s0 s1 ys None one mine n d = ap since_drain mine ∙ (since_from-append None s0.view.mine ys ∙ (ap (λ o. since_from o ys) d ∙ since_none ys n))
+drains_more s0 s1 ys (Some q) one mine n d = covers_then s0 s1 ys one mine n q q d d.few (λ i h j. absurd (omega arith))
+
+-- steps change nothing of what no call changes
+pub steps_about : (s0 s1 : PlaceView) (ys : List Note) → Steps s0 s1 ys → about s1 ≡ about s0
+steps_about s0 s1 ys S = λ i. about_of (S.terms i) (S.thread i) (S.board i)
 
 pub drains_anew : (s0 s1 : PlaceView) → Notes s0 s1 (plain (SetGate s0.view.thread true)) → Drains s1 (Some 0)
 drains_anew s0 s1 m =
@@ -110,12 +115,15 @@ drains_anew s0 s1 m =
     }
 
 pub drains_ready : (s0 s1 : PlaceView) (q : Option ℕ) → Notes s0 s1 (plain (SetGate s0.view.thread false)) → Drains s0 q → Drains s1 q
-drains_ready s0 s1 q m d = drains_more s0 s1 (plain (SetGate s0.view.thread false) ∷ []) q (gate_steps s0 s1 false m) (refl, tt) d
+drains_ready s0 s1 q m d = let S = gate_steps s0 s1 false m in drains_more s0 s1 (plain (SetGate s0.view.thread false) ∷ []) q (steps_about s0 s1 (plain (SetGate s0.view.thread false) ∷ []) S) S.mine (refl, tt) d
 
 -- a drain that found nothing more
 module _ (s0 s1 : PlaceView) (from : ℕ) (c : Covers s0 from) (p : PassesTo s0 s1 from (64 * s0.view.terms.threads)) where
   abbrev all : ℕ
   all = 64 * s0.view.terms.threads
+
+  same : about s1 ≡ about s0
+  same = steps_about s0 s1 p.only.looks p.only.steps
 
   abbrev quiet : NoDrain p.only.looks
   quiet = looks_no_drain s0.view.thread p.only.looks p.only.looked
@@ -124,7 +132,7 @@ module _ (s0 s1 : PlaceView) (from : ℕ) (c : Covers s0 from) (p : PassesTo s0 
   none_left i h j = inr (p.none i h j)
 
   pub none_drains : Drains s1 (Some (64 * s0.view.terms.threads))
-  none_drains = covers_then s0 s1 p.only.looks p.only.steps quiet from all c (le_refl all) none_left
+  none_drains = covers_then s0 s1 p.only.looks same p.only.steps.mine quiet from all c (le_refl all) none_left
 
   pub drains_none : DrainsNone (history_of s0 (Some from)) (history_of s1 (Some (64 * s0.view.terms.threads)))
   drains_none = record {
@@ -134,8 +142,8 @@ module _ (s0 s1 : PlaceView) (from : ℕ) (c : Covers s0 from) (p : PassesTo s0 
       makes = makes_of s0 s1 p.only.looks (Some from) (Some all) p.only.steps (looks_even s0.view.thread p.only.looks p.only.looked);
     };
     passed = refl;
-    all = subst (λ (o : Option (List Note)). IfSome o (λ es. AllCovered (about s0) es)) (sym (since_then s0 s1 p.only.looks p.only.steps quiet from all c (le_refl all) none_left))
-        (covered_all (about s0) (c.es ++ p.only.looks) p.only.steps.was.low (cover_then s0 s1 p.only.looks p.only.steps quiet from all c (le_refl all) none_left));
+    all = subst (λ (o : Option (List Note)). IfSome o (λ es. AllCovered (about s0) es)) (sym (since_then s0 s1 p.only.looks same p.only.steps.mine quiet from all c (le_refl all) none_left))
+        (covered_all (about s0) (c.es ++ p.only.looks) p.only.steps.was.low (cover_then s0 s1 p.only.looks same p.only.steps.mine quiet from all c (le_refl all) none_left));
   }
 
 -- a drain that took
@@ -148,7 +156,7 @@ module _ (s0 s1 : PlaceView) (from at : ℕ) (place : PlaceNo) (v : Shown) (c : 
       let t = s0.view.thread in
       let k = s0.view.terms.threads in
       let inside = w.inside in
-      covers_then s0 s1 (w.looks ++ T) w.took.steps (no_drain-append w.looks T (looks_no_drain t w.looks w.took.looked) (tt, (tt, (tt, tt)))) from (at + 1) c (omega arith)
+      covers_then s0 s1 (w.looks ++ T) (steps_about s0 s1 (w.looks ++ T) w.took.steps) w.took.steps.mine (no_drain-append w.looks T (looks_no_drain t w.looks w.took.looked) (tt, (tt, (tt, tt)))) from (at + 1) c (omega arith)
       (λ i h j. ⊎_elim
       (λ (e : i ≡ at). subst (λ (q : PlaceNo). IsCovered t (w.looks ++ T) q) (w.place_is ∙ ap (nth_place t k) (sym e)) (inl (among_right (IsTakeAt place) w.looks T (inl refl))))
       (λ (ne : i ≢ at). covered_left t w.looks T (nth_place t k i) (inr (w.none i h (omega arith))))

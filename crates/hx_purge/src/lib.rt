@@ -2,6 +2,7 @@
 #![tactic(auto)]
 
 mod drain;
+mod own;
 mod purge;
 mod sweep;
 

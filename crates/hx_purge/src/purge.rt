@@ -1,5 +1,6 @@
 //! Purges (HAProxy 2.4 Configuration Manual, section 5.2: pool-purge-delay).
 ghost use Rattle.std.specs.Prelude.{ℕ, [], ◌∷◌, List, Option, MatchOption, false};
+ghost use Rattle.hx_pool.specs.declared.entries.Entry.TheVariants.{Round};
 ghost use Rattle.hx_pool.specs.Causes.{caretaker};
 ghost use Rattle.hx_pool.specs.Purge.{GivesQuota, GivesNoQuota, StandsAt, PurgesOne, PurgesNone, KeepsQuota};
 ghost use Rattle.hx_pool.specs.SeatView.{Grows};
@@ -12,14 +13,17 @@ ghost use Rattle.hx_takeover.specs.Takeover.{GrowsBy};
 use crate::sweep::sweep;
 use hx_base::{Faced, Millis};
 use hx_places::PlaceSeat;
-use hx_pool::{Entry, Quota};
+use hx_pool::Quota;
 use hx_resting::{ROW, quota_after, quota_at};
 use hx_takeover::Over;
 
-/// A new purge interval: the mark that says so, and how many connections are to be closed.
+/// A new purge interval, and how many connections are to be closed.
 #[derive(Clone, Copy, PartialEq, Eq, Debug)]
 pub struct NewInterval {
-    pub raised: Entry,
+    /// How many whole intervals have passed.
+    pub round: u64,
+    /// How many had passed when a seat last raised the interval.
+    pub before: u64,
     pub quota: Quota,
 }
 
@@ -33,7 +37,7 @@ pub fn due<V: Faced>(seat: &mut PlaceSeat<'_, V>, now: Millis) -> Option<NewInte
     ensures grows { (passed : Option ℕ) → MatchOption result
         (Grows (history_of seat.old passed) (history_of seat.new passed) [])
         (λ d. Grows (history_of seat.old passed) (history_of seat.new passed)
-        (d.raised ∷ [])) }
+        (Round seat.old.view.thread d.round d.before ∷ [])) }
     ensures limit { NeverOverMax seat.new }
     ensures count { KeepsCount seat.new }
     // The thread's own row is as it was, and can be used again.
@@ -45,15 +49,16 @@ pub fn due<V: Faced>(seat: &mut PlaceSeat<'_, V>, now: Millis) -> Option<NewInte
     if delay == 0 {
         return None;
     }
-    let k = now.0.saturating_sub(seat.start().0) / delay;
-    let old = seat.raise(k);
-    if old >= k {
+    let round = now.0.saturating_sub(seat.start().0) / delay;
+    let before = seat.raise(round);
+    if before >= round {
         return None;
     }
     let count = seat.count();
     Some(NewInterval {
-        raised: Entry::Round { t, k, old },
-        quota: quota_after(t, count, k - old),
+        round,
+        before,
+        quota: quota_after(t, count, round - before),
     })
 }
 
