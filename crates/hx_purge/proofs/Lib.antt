@@ -1,3 +1,4 @@
 pub mod Sweeping
 pub mod Closing
 pub mod Draining
+pub mod Marking
