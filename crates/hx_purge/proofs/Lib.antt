@@ -2,3 +2,4 @@ pub mod Sweeping
 pub mod Closing
 pub mod Draining
 pub mod Marking
+pub mod Slotting

@@ -1,6 +1,7 @@
 -- What the marks of a call say of its entries.
 use Rattle.std.proofs.Common.{◌≡◌, ℕ, Bool, true, false, cond, List, [], ◌∷◌, ◌++◌, refl, sym, ap, ◌∙◌, Option, None, nat_lt}
 use Rattle.std.specs.Prelude.{filter}
+use Rattle.hx_base.specs.declared.numbers.ThreadNo.{ThreadNo}
 use Rattle.hx_base.specs.declared.totals.Totals.{Totals}
 use Rattle.hx_pool.specs.declared.entries.Entry.{Entry}
 use Rattle.hx_pool.specs.declared.entries.Entry.TheVariants.{Open, Park, Take, Free, Close, Look, Up, Down, Count, Gate, SetGate, Round}
@@ -22,6 +23,15 @@ abbrev pub AreQuiet : List Entry → Type 0
 AreQuiet [] = Unit {0}
 AreQuiet (e ∷ es) = IsNoDrain e × AreQuiet es
 
+-- a Round is a mark or not
+round_totals : (z : Totals) (t : ThreadNo) (k old : ℕ) (fs es : List Entry) (b : Bool) → totals_from z fs ≡ totals_from z es → totals_from z (cond b (Round t k old ∷ fs) fs) ≡ totals_from z es
+round_totals z t k old fs es true h = h
+round_totals z t k old fs es false h = h
+
+round_quiet : (t : ThreadNo) (k old : ℕ) (fs es : List Entry) (b : Bool) → (AreQuiet fs → AreQuiet es) → AreQuiet (cond b (Round t k old ∷ fs) fs) → AreQuiet es
+round_quiet t k old fs es true f h = f h.1
+round_quiet t k old fs es false f h = f h
+
 -- entries that are no marks count for nothing
 totals_marks : (z : Totals) (es : List Entry) → totals_from z (filter is_mark es) ≡ totals_from z es
 totals_marks z [] = refl
@@ -36,11 +46,7 @@ totals_marks z (Down t old ∷ es) = totals_marks z es
 totals_marks z (Count t c ∷ es) = totals_marks z es
 totals_marks z (Gate t draining ∷ es) = totals_marks z es
 totals_marks z (SetGate t draining ∷ es) = totals_marks z es
-totals_marks z (Round t k old ∷ es) = go (is_mark (Round t k old))
-  where
-    go : (b : Bool) → totals_from z (cond b (Round t k old ∷ filter is_mark es) (filter is_mark es)) ≡ totals_from z es
-    go true = totals_marks z es
-    go false = totals_marks z es
+totals_marks z (Round t k old ∷ es) = round_totals z t k old (filter is_mark es) es (is_mark (Round t k old)) (totals_marks z es)
 
 -- entries that are no marks set no drain
 quiet_marks : (es : List Entry) → AreQuiet (filter is_mark es) → AreQuiet es
@@ -56,11 +62,7 @@ quiet_marks (Down t old ∷ es) q = (tt, quiet_marks es q)
 quiet_marks (Count t c ∷ es) q = (tt, quiet_marks es q)
 quiet_marks (Gate t draining ∷ es) q = (tt, quiet_marks es q)
 quiet_marks (SetGate t draining ∷ es) q = (q.0, quiet_marks es q.1)
-quiet_marks (Round t k old ∷ es) q = (tt, go (is_mark (Round t k old)) q)
-  where
-    go : (b : Bool) → AreQuiet (cond b (Round t k old ∷ filter is_mark es) (filter is_mark es)) → AreQuiet es
-    go true h = quiet_marks es h.1
-    go false h = quiet_marks es h
+quiet_marks (Round t k old ∷ es) q = (tt, round_quiet t k old (filter is_mark es) es (is_mark (Round t k old)) (quiet_marks es) q)
 
 quiet_notes : (xs : List Note) → AreQuiet (entries_of xs) → NoDrain xs
 quiet_notes [] q = tt

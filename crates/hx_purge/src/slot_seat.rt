@@ -80,7 +80,7 @@ impl<'a, V: Faced> SlotSeat<'a, V> {
     pub fn new(alloc: Global, seat: PlaceSeat<'a, V>) -> Result<SlotSeat<'a, V>, NoMemory>
         requires unused { seat.view.mine ≡ [] }
         requires idle { seat.view.hand ≡ Idle }
-        ensures history { IfOk result (λ s. s.history ≡ history_of seat None) }
+        ensures history { IfOk result (λ s. s.history ≡ history_of seat.entry None) }
     {
         seat.thread();
         let row = Row::new(alloc)?;
