@@ -1,6 +1,6 @@
 -- What a whole seat keeps from call to call.
-use Rattle.std.proofs.Common.{◌≡◌, ℕ, List, [], ◌∷◌, ◌++◌, ⊎_elim, refl, sym, ap, ◌∙◌, subst, arith, true, false, Bool, Option, None}
-use Rattle.std.specs.Prelude.{not}
+use Rattle.std.proofs.Common.{◌≡◌, ℕ, List, [], ◌∷◌, ◌++◌, ⊎_elim, refl, sym, ap, ◌∙◌, subst, arith, true, false, Bool, Option, Some, None}
+use Rattle.std.specs.Prelude.{not, Result, Ok, Err, MatchResult, MatchOption}
 use Rattle.std.proofs.lemmas.List.{append-nil}
 use Rattle.hx_base.specs.declared.numbers.ThreadNo.{ThreadNo}
 use Rattle.hx_base.specs.declared.numbers.SessionNo.{SessionNo}
@@ -115,3 +115,13 @@ takes_drains s0 s1 n first v p w d =
 pub none_own_drains : (s0 s1 : PlaceView) (first : Bool) (p : Option ℕ) → TakesNoneOwn (history_of s0 p) (history_of s1 p) first → Drains s0 p → Drains s1 p
 none_own_drains s0 s1 first p w d =
     let l = w.looks in drains_by s0 s1 p l.looks l.makes (looks_no_drain s0.view.thread l.looks l.looked) d
+
+pub park_drains : {E : Type 0} (why : E → NoPark) (s0 s1 : PlaceView) (n : SessionNo) (v : Shown) (p : Option ℕ) (r : Result PlaceNo E)
+    → MatchResult r (λ place. Parks (history_of s0 p) (history_of s1 p) n place v) (λ u. RefusesPark (history_of s0 p) (history_of s1 p) n v (why u)) → Drains s0 p → Drains s1 p
+park_drains why s0 s1 n v p (Ok place) m d = parks_drains s0 s1 n place v p m d
+park_drains why s0 s1 n v p (Err u) m d = refused_drains s0 s1 n v (why u) p m d
+
+pub take_drains : {V : Type 0} (shows : V → Shown) (s0 s1 : PlaceView) (n : SessionNo) (first : Bool) (p : Option ℕ) (r : Option V)
+    → MatchOption r (TakesNoneOwn (history_of s0 p) (history_of s1 p) first) (λ v. TakesOwn (history_of s0 p) (history_of s1 p) n first (shows v)) → Drains s0 p → Drains s1 p
+take_drains shows s0 s1 n first p None m d = none_own_drains s0 s1 first p m d
+take_drains shows s0 s1 n first p (Some v) m d = takes_drains s0 s1 n first (shows v) p m d
