@@ -6,7 +6,7 @@ use Rattle.hx_base.specs.declared.totals.Totals.{Totals}
 use Rattle.hx_pool.specs.declared.entries.Entry.{Entry}
 use Rattle.hx_pool.specs.declared.entries.Entry.TheVariants.{Open, Park, Take, Free, Close, Look, Up, Down, Count, Gate, SetGate, Round}
 use Rattle.hx_pool.specs.declared.entries.Note.{Note}
-use Rattle.hx_pool.specs.History.{entries_of, is_mark, marks_of}
+use Rattle.hx_pool.specs.History.{entries_of, is_mark}
 use Rattle.hx_pool.specs.SeatView.{Grows}
 use Rattle.hx_pool.specs.Totals.{totals_of, totals_after, totals_from}
 use Rattle.hx_pool.proofs.Histories.{totals_more}

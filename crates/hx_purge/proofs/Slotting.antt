@@ -15,7 +15,7 @@ use Rattle.hx_pool.specs.declared.refusals.NoPark.{NoPark}
 use Rattle.hx_pool.specs.declared.refusals.NoPark.TheVariants.{Never, NoneKept, RowFull, Draining, PoolFull}
 use Rattle.hx_pool.specs.History.{plain, marks_of, IsEven}
 use Rattle.hx_pool.specs.SeatView.{Makes, Calls, Grows}
-use Rattle.hx_pool.specs.Parking.{parked, gated, Settles, Parks, FindsDraining, TakesBack, RefusesPark}
+use Rattle.hx_pool.specs.Parking.{parked, Settles, Parks, FindsDraining, TakesBack, RefusesPark}
 use Rattle.hx_pool.specs.Taking.{taking, TakesOwn, TakesNoneOwn}
 use Rattle.hx_pool.specs.Totals.{totals_from}
 use Rattle.hx_places.specs.declared.view.View.{View}
