@@ -57,7 +57,7 @@ since_none : (ys : List Note) → NoDrain ys → since_from None ys ≡ None
 since_none [] n = refl
 since_none (y ∷ ys) n = ap (λ o. since_from o ys) (after_none y n.0) ∙ since_none ys n.1
 
-since_some : (es ys : List Note) → NoDrain ys → since_from (Some es) ys ≡ Some (es ++ ys)
+pub since_some : (es ys : List Note) → NoDrain ys → since_from (Some es) ys ≡ Some (es ++ ys)
 since_some es [] n = ap Some (sym (append-nil es))
 since_some es (y ∷ ys) n = ap (λ o. since_from o ys) (after_some es y n.0) ∙ (since_some (es ++ y ∷ []) ys n.1 ∙ ap Some (append_assoc es (y ∷ []) ys))
 

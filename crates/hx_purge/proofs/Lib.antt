@@ -3,3 +3,4 @@ pub mod Closing
 pub mod Draining
 pub mod Marking
 pub mod Slotting
+pub mod Emptied

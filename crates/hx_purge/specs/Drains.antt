@@ -1,8 +1,13 @@
 -- What a seat's drain has passed.
-use Rattle.std.specs.Prelude.{◌≡◌, ℕ, ◌*◌, ◌<◌, ◌≤◌, List, Option, Some, None}
+use Rattle.std.specs.Prelude.{◌≡◌, ℕ, ◌*◌, ◌<◌, ◌≤◌, true, List, ◌∷◌, ◌++◌, Option, Some, None}
+use Rattle.hx_base.specs.declared.numbers.PlaceNo.{PlaceNo}
+use Rattle.hx_base.specs.declared.numbers.Face.{Face}
+use Rattle.hx_pool.specs.declared.entries.Entry.TheVariants.{SetGate}
 use Rattle.hx_pool.specs.declared.entries.Note.{Note}
+use Rattle.hx_pool.specs.Table.{Holds, IsInRow, spot_at}
+use Rattle.hx_pool.specs.History.{plain, table_after}
 use Rattle.hx_pool.specs.Causes.{nth_place, IsCovered}
-use Rattle.hx_pool.specs.Drain.{since_drain}
+use Rattle.hx_pool.specs.Drain.{since_drain, NoSetGate, IsPending}
 use Rattle.hx_places.specs.Seats.{PlaceView}
 
 -- by the seat's own entries since its last SetGate that is draining, each of the first q places, in the order of the
@@ -17,3 +22,9 @@ pub record Covers (s : PlaceView) (q : ℕ) : Type 0 where
 abbrev pub Drains : PlaceView → Option ℕ → Type 0
 Drains s None = since_drain s.view.mine ≡ None
 Drains s (Some q) = Covers s q
+
+-- where nobody set the drain state since this seat's SetGate, all that rests is a park under way: its thread made no
+-- entry since, or the Gate that shows draining
+abbrev pub IsEmptied : PlaceView → Type 0
+IsEmptied s = (before later : List Note) → s.view.seen ≡ before ++ plain (SetGate s.view.thread true) ∷ later → NoSetGate later
+    → (place : PlaceNo) (f : Face) → IsInRow place → spot_at (table_after s.view.seen) place ≡ Holds f → IsPending s.view.seen place f

@@ -1,5 +1,5 @@
 //! Drains: every connection that rests is closed, and none is parked any more.
-ghost use Rattle.std.specs.Prelude.{ℕ, [], ◌∷◌, List, Option, Some, MatchOption, true, false};
+ghost use Rattle.std.specs.Prelude.{◌≡◌, ◌*◌, ℕ, [], ◌∷◌, List, Option, Some, MatchOption, true, false};
 ghost use Rattle.hx_pool.specs.declared.entries.Entry.TheVariants.{SetGate};
 ghost use Rattle.hx_pool.specs.Causes.{caretaker};
 ghost use Rattle.hx_pool.specs.Drain.{DrainsOne, DrainsNone};
@@ -10,7 +10,7 @@ ghost use Rattle.hx_rows.specs.declared.stays.Stay.{Stay};
 ghost use Rattle.hx_rows.specs.Row.{IsRowOf, KeepsCount, NeverOverMax};
 ghost use Rattle.hx_rows.specs.Steps.{IsAtRest};
 ghost use Rattle.hx_takeover.specs.Takeover.{GrowsBy};
-ghost use Rattle.hx_purge.specs.Drains.{Drains};
+ghost use Rattle.hx_purge.specs.Drains.{Drains, IsEmptied};
 
 use crate::sweep::sweep;
 use hx_base::Faced;
@@ -66,6 +66,8 @@ pub fn drain_next<V: Faced>(
         (λ o. DrainsOne (history_of seat.old passed.old) (history_of seat.new passed.new)
         (V.shows o.v)) }
     ensures drains { Drains seat.new passed.new }
+    // Once every place was passed, nothing rests but parks under way.
+    ensures emptied { passed.new ≡ Some (64 * seat.new.view.terms.threads) → IsEmptied seat.new }
     ensures grows { MatchOption result
         (Grows (history_of seat.old passed.old) (history_of seat.new passed.new) [])
         (λ o. GrowsBy (history_of seat.old passed.old) (history_of seat.new passed.new)

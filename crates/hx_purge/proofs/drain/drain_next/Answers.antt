@@ -4,6 +4,7 @@ use Rattle.hx_places.specs.Seats.{history_of}
 use Rattle.hx_purge.specs.Drains.{Covers, Drains}
 use Rattle.hx_purge.proofs.Closing.{passed_grows, passed_row, took_grows, took_row}
 use Rattle.hx_purge.proofs.Draining.{one_drains, drains_one, none_drains, drains_none}
+use Rattle.hx_purge.proofs.Emptied.{emptied_by}
 use Rattle.hx_purge.proofs.drain.drain_next.Goals as goal
 
 pub returns-in-Some-clause-answer : goal.returns-in-Some-clause-answer
@@ -61,3 +62,13 @@ returns-in-None-clause-row g c =
     let s0 = c.args.seat.now in
     let few = c.thread.ensures.stands.few in
     passed_row s0 c.sweep.new.seat c.in_ok-from.from (64 * s0.view.terms.threads) c.in-None.ensures.answer (omega arith)
+
+pub returns-in-Some-clause-emptied : goal.returns-in-Some-clause-emptied
+returns-in-Some-clause-emptied g c = λ e.
+    let s1 = c.sweep.new.seat in
+    emptied_by s1 (Some (c.in-Some.swept.at + 1)) c.in-Some.ensures.answer.took.steps.one (returns-in-Some-clause-drains g c) e
+
+pub returns-in-None-clause-emptied : goal.returns-in-None-clause-emptied
+returns-in-None-clause-emptied g c = λ e.
+    let s1 = c.sweep.new.seat in
+    emptied_by s1 (Some (64 * c.threads-threads.result)) c.in-None.ensures.answer.only.steps.one (returns-in-None-clause-drains g c) e
