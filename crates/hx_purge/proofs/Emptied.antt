@@ -9,7 +9,7 @@ use Rattle.hx_pool.specs.Causes.{AllCovered}
 use Rattle.hx_pool.specs.Drain.{since_after, since_from, since_drain, NoSetGate}
 use Rattle.hx_pool.proofs.Histories.{own_of-append, since_from-append}
 use Rattle.hx_pool.proofs.Coverage.{covered_all}
-use Rattle.hx_places.specs.Seats.{PlaceView, about, Stands}
+use Rattle.hx_places.specs.Seats.{PlaceView, about, history_of, Stands}
 use Rattle.hx_places.proofs.Drained.{drained}
 use Rattle.hx_purge.specs.Drains.{Covers, Drains, IsEmptied}
 use Rattle.hx_purge.proofs.Draining.{IsNoDrain, NoDrain, since_some}
@@ -48,13 +48,13 @@ since_set t before later n =
 some_same : (xs ys : List Note) → Some xs ≡ Some ys → xs ≡ ys
 some_same xs ys e = cc
 
-pub emptied : (s : PlaceView) → Stands s.view → Covers s (64 * s.view.terms.threads) → IsEmptied s
-emptied s k c = λ before later parts none.
+pub emptied : (s : PlaceView) (p : Option ℕ) → Stands s.view → Covers s (64 * s.view.terms.threads) → IsEmptied (history_of s p)
+emptied s p k c = λ before later parts none.
     let t = s.view.thread in
     let own : s.view.mine ≡ own_of t (before ++ plain (SetGate t true) ∷ later) = k.own ∙ ap (own_of t) parts in
     let same : c.es ≡ own_of t later = some_same c.es (own_of t later) (sym c.since ∙ (ap since_drain own ∙ since_set t before later none)) in
     drained s.view.terms s.view.seen t k.right before later parts none (subst (λ (es : List Note). AllCovered (about s) es) same (covered_all (about s) c.es k.low c.covered))
 
 -- the same by what the drain has passed
-pub emptied_by : (s : PlaceView) (q : Option ℕ) → Stands s.view → Drains s q → q ≡ Some (64 * s.view.terms.threads) → IsEmptied s
-emptied_by s q k d e = emptied s k (subst (λ (o : Option ℕ). Drains s o) e d)
+pub emptied_by : (s : PlaceView) (q : Option ℕ) → Stands s.view → Drains s q → q ≡ Some (64 * s.view.terms.threads) → IsEmptied (history_of s q)
+emptied_by s q k d e = emptied s q k (subst (λ (o : Option ℕ). Drains s o) e d)

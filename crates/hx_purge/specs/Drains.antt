@@ -6,6 +6,7 @@ use Rattle.hx_pool.specs.declared.entries.Entry.TheVariants.{SetGate}
 use Rattle.hx_pool.specs.declared.entries.Note.{Note}
 use Rattle.hx_pool.specs.Table.{Holds, IsInRow, spot_at}
 use Rattle.hx_pool.specs.History.{plain, table_after}
+use Rattle.hx_pool.specs.SeatView.{History}
 use Rattle.hx_pool.specs.Causes.{nth_place, IsCovered}
 use Rattle.hx_pool.specs.Drain.{since_drain, NoSetGate, IsPending}
 use Rattle.hx_places.specs.Seats.{PlaceView}
@@ -25,6 +26,6 @@ Drains s (Some q) = Covers s q
 
 -- where nobody set the drain state since this seat's SetGate, all that rests is a park under way: its thread made no
 -- entry since, or the Gate that shows draining
-abbrev pub IsEmptied : PlaceView → Type 0
-IsEmptied s = (before later : List Note) → s.view.seen ≡ before ++ plain (SetGate s.view.thread true) ∷ later → NoSetGate later
-    → (place : PlaceNo) (f : Face) → IsInRow place → spot_at (table_after s.view.seen) place ≡ Holds f → IsPending s.view.seen place f
+abbrev pub IsEmptied : History → Type 0
+IsEmptied h = (before later : List Note) → h.seen ≡ before ++ plain (SetGate h.about.thread true) ∷ later → NoSetGate later
+    → (place : PlaceNo) (f : Face) → IsInRow place → spot_at (table_after h.seen) place ≡ Holds f → IsPending h.seen place f

@@ -67,7 +67,8 @@ pub fn drain_next<V: Faced>(
         (V.shows o.v)) }
     ensures drains { Drains seat.new passed.new }
     // Once every place was passed, nothing rests but parks under way.
-    ensures emptied { passed.new ≡ Some (64 * seat.new.view.terms.threads) → IsEmptied seat.new }
+    ensures emptied { passed.new ≡ Some (64 * seat.new.view.terms.threads)
+        → IsEmptied (history_of seat.new passed.new) }
     ensures grows { MatchOption result
         (Grows (history_of seat.old passed.old) (history_of seat.new passed.new) [])
         (λ o. GrowsBy (history_of seat.old passed.old) (history_of seat.new passed.new)

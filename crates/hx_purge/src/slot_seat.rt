@@ -14,7 +14,7 @@ use hx_base::{
 };
 use hx_places::PlaceSeat;
 use hx_pool::{Entry, HasHistory, LastMarks, NoneOver, Quota, Seat, Unparked};
-use hx_resting::{NO_MARKS, NO_TOTALS, Taker, most_opens, one_mark, take_entry, with_counted};
+use hx_resting::{NO_MARKS, NO_TOTALS, ROW, Taker, most_opens, one_mark, take_entry, with_counted};
 use hx_rows::Row;
 use hx_takeover::{Over, find_over};
 use std::alloc::Global;
@@ -72,7 +72,8 @@ impl<'a, V: Faced> Model for SlotSeat<'a, V> {
 }
 
 impl<'a, V: Faced> SlotSeat<'a, V> {
-    ghost use Rattle.std.specs.Prelude.{[], None, IfOk};
+    ghost use Rattle.std.specs.Prelude.{◌≢◌, ◌*◌, [], true, Some, None, IfOk, MatchBool};
+    ghost use Rattle.hx_purge.specs.Drains.{IsEmptied};
     ghost use Rattle.hx_places.specs.declared.view.Hand.TheVariants.{Idle};
     ghost use Rattle.hx_places.specs.Seats.{history_of};
 
@@ -90,6 +91,18 @@ impl<'a, V: Faced> SlotSeat<'a, V> {
             passed: None,
             last: NO_MARKS,
         })
+    }
+
+    /// Whether the drain has passed every place since the seat set the server draining. Then, while
+    /// nobody has set the drain state since, nothing rests but parks under way.
+    pub fn is_drained(&self) -> bool
+        ensures passed { MatchBool result
+            (self.now.history.passed ≡ Some (64 * self.now.history.about.threads))
+            (self.now.history.passed ≢ Some (64 * self.now.history.about.threads)) }
+        ensures emptied { result ≡ true → IsEmptied self.now.history }
+    {
+        self.own.seat.thread();
+        self.passed == Some(ROW * self.own.seat.threads() as u16)
     }
 }
 
