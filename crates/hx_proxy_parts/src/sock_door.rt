@@ -151,8 +151,8 @@ impl<R: std::net::Net + Drop> Door for SockDoor<R> {
         }
     }
 
-    /// It waits only where no client is known to be there. Where the machine has no descriptor left it fails at once,
-    /// so the caller has to pause then.
+    /// It waits only where no client is known to be there, or where the machine refused one, as it does without a
+    /// descriptor left: so a caller who tries again doesn't turn in a circle.
     fn accept(&mut self, limit: Millis) -> Accepted<SockLink> {
         let mut found = look(&mut self.listening);
         if let Found::Nothing = &found {
@@ -168,6 +168,8 @@ impl<R: std::net::Net + Drop> Door for SockDoor<R> {
                 Accepted::NotYet
             }
             Found::Failed => {
+                // What comes meanwhile is noted; a failed pause is made up for by the next try.
+                let _ = self.wait(limit);
                 self.faults = self.faults.saturating_add(1);
                 Accepted::Failed
             }

@@ -1,5 +1,5 @@
 -- How a run of the program ends, why, and what is written then.
-use Rattle.std.specs.Prelude.{◌≡◌, ◌⊎◌, ℕ, ◌≤◌, true, List, length, IfSome}
+use Rattle.std.specs.Prelude.{◌≡◌, ◌⊎◌, ℕ, ◌≤◌, true, List, [], length, IfSome}
 use Rattle.hx_base.specs.Counts.{Rose}
 use Rattle.hx_link.specs.Told.{SourceState, SinkState}
 use Rattle.hx_link.specs.Whole.{WritesAll, WritesPart}
