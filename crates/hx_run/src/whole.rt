@@ -4,7 +4,7 @@ ghost use Rattle.hx_config.specs.Limits.{all_servers};
 ghost use Rattle.hx_config.specs.Views.{meaning};
 ghost use Rattle.hx_run.specs.Dues.{AreDue};
 ghost use Rattle.hx_run.specs.Overs.{AreOver};
-ghost use Rattle.hx_run.specs.Courses.{KeepsOn};
+ghost use Rattle.hx_run.specs.Courses.{KeepsOn, EndsCourse};
 ghost use Rattle.hx_run.specs.Runs.{GoesOn};
 
 use crate::due::{Due, clients_due, orders_due};
@@ -74,6 +74,7 @@ pub fn run_script(alloc: Global, script: Script, most: u64) -> Result<Ran, Halt>
     ensures config { IfOk result (λ ran. ran.config ≡ script.config) }
     ensures over { IfOk result (λ ran. AreOver (all_servers script.config.backs) ran.seats) }
     ensures told { IfOk result (λ ran. ran.net.starved ≡ false) }
+    ensures course { IfOk result (λ ran. EndsCourse ran.records ran.net.state) }
 {
     let Script {
         config,
