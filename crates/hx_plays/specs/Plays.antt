@@ -6,7 +6,7 @@ use Rattle.hx_script.specs.TrueTranscript.{AreTrueServers}
 use Rattle.hx_script.specs.Printed.{Spells}
 use Rattle.hx_script.specs.declared.transcript.Transcript.{Transcript}
 use Rattle.hx_script_parts.specs.Faults.{code_of}
-use Rattle.hx_script_parts.specs.Meaning.{Meaning, meaning_of}
+use Rattle.hx_script_parts.specs.Meaning.{Meaning, longest_text, meaning_of}
 use Rattle.hx_script_parts.specs.declared.fault.Flaw.TheVariants as flaw
 use Rattle.hx_script_parts.specs.declared.fault.Rule.{Rule}
 use Rattle.hx_script_parts.specs.declared.fault.Rule.TheVariants.{BadWorker}
@@ -31,6 +31,14 @@ pub record Plays (bytes text : List ℕ) : Type 0 where
   pub reads : meaning_of bytes ≡ Ok script
   pub one : script.config.threads ≡ 1
   pub tells : TellsServers script text
+
+-- the most bytes of a script
+abbrev pub most_script : ℕ
+most_script = longest_text
+
+-- the first fault of a script's configuration: its line there, counted from 1, and the number of its rule
+abbrev pub HasConfigFault : List ℕ → ℕ → ℕ → Type 0
+HasConfigFault bytes line rule = meaning_of bytes ≡ Err (flaw.Config line rule)
 
 -- the line of a script that says how long its configuration is
 abbrev pub config_line : ℕ
@@ -64,7 +72,7 @@ pub record Overruns (bytes : List ℕ) (turns : ℕ) : Type 0 where
 -- what any script is replayed to
 abbrev pub IsPlayOf : List ℕ → Replay → Type 0
 IsPlayOf bytes (replay.Text text) = Plays bytes text.items
-IsPlayOf bytes (replay.ConfigFault line rule) = meaning_of bytes ≡ Err (flaw.Config line rule)
+IsPlayOf bytes (replay.ConfigFault line rule) = HasConfigFault bytes line rule
 IsPlayOf bytes (replay.ScriptFault line rule) = HasScriptFault bytes line rule
 IsPlayOf bytes (replay.Overrun turns) = Overruns bytes turns
 

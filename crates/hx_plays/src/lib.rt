@@ -3,4 +3,4 @@
 
 mod plays;
 
-pub use plays::{Replay, replay_any};
+pub use plays::{MOST_SCRIPT, Replay, replay_any};

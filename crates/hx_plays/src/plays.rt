@@ -24,6 +24,9 @@ pub enum Replay {
     Overrun { turns: u64 },
 }
 
+/// The most bytes of a script.
+pub const MOST_SCRIPT: usize = 1_048_576;
+
 /// The line of a script that says how long its configuration is.
 const CONFIG_LINE: u32 = 2;
 

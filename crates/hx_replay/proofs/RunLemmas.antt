@@ -7,8 +7,7 @@ use Rattle.hx_script_parts.specs.Meaning.{Meaning, longest_text, meaning_of}
 use Rattle.hx_script_parts.specs.declared.fault.Flaw.{Flaw}
 use Rattle.hx_script_parts.specs.declared.fault.Flaw.TheVariants as flaw
 use Rattle.hx_script_parts.specs.declared.fault.Rule.TheVariants.{TooLong}
-use Rattle.hx_plays.specs.Plays.{HasScriptFault}
-use Rattle.hx_replay_parts.specs.Replays.{most_script}
+use Rattle.hx_plays.specs.Plays.{HasScriptFault, most_script}
 use Rattle.hx_replay.specs.declared.ending.Ending.{Ending}
 use Rattle.hx_replay.specs.declared.ending.Ending.TheVariants as ending
 use Rattle.hx_replay.specs.Endings.{HasCause, IsEndingOf, TellsScriptFault}
@@ -60,7 +59,7 @@ replay_has_cause old new text ending.Usage all short r = absurd r
 replay_has_cause old new text ending.SourceFault all short r = absurd r
 replay_has_cause old new text ending.Unbuilt all short r = absurd r
 replay_has_cause old new text (ending.Done out) all short r =
-    record { command = refl; ended = (all.ended short).0; same = all.same; bytes = text; read = (all.ended short).1; short = short; replays = r }
+    record { command = refl; ended = (all.ended short).0; same = all.same; bytes = text; read = (all.ended short).1; short = short; plays = r }
 replay_has_cause old new text (ending.ConfigFault out) all short (line, rule, fault, is) = (
   line,
   rule,

@@ -5,9 +5,7 @@ use Rattle.hx_link.specs.Told.{SourceState, SinkState}
 use Rattle.hx_link.specs.Whole.{WritesAll, WritesPart}
 use Rattle.hx_check_text.specs.Checked.{IsFault, SpellsJudged}
 use Rattle.hx_check_text.specs.declared.check.Checked.TheVariants as checked
-use Rattle.hx_form.specs.Forms.{HasConfigFault, IsUnbuiltScript}
-use Rattle.hx_plays.specs.Plays.{Plays, HasScriptFault, Overruns}
-use Rattle.hx_replay_parts.specs.Replays.{most_script, Replays}
+use Rattle.hx_plays.specs.Plays.{Plays, HasConfigFault, HasScriptFault, Overruns, most_script}
 use Rattle.hx_replay.specs.Checks.{Judged, BreaksReading}
 use Rattle.hx_replay.specs.Commands.{Means, NoCommand}
 use Rattle.hx_replay.specs.Reads.{IsReadOut}
@@ -16,11 +14,7 @@ use Rattle.hx_replay.specs.declared.command.Command.TheVariants.{Replay, Check, 
 use Rattle.hx_replay.specs.declared.ending.Ending.{Ending}
 use Rattle.hx_replay.specs.declared.ending.Ending.TheVariants as ending
 
--- a script of one exchange is replayed as such; any other one is a script of one thread, whose text tells its servers
-abbrev pub IsReplayText : List ℕ → List ℕ → Type 0
-IsReplayText bytes text = Replays bytes text ⊎ (IsUnbuiltScript bytes × Plays bytes text)
-
--- the source was read to its end without a fault, what it gave is a script, and its replay prints the text
+-- the source was read to its end without a fault, what it gave is a script of one thread, and the text is that of its replay
 pub record Replayed (words : List (List ℕ)) (old new : SourceState) (text : List ℕ) : Type 0 where
   pub command : Means words Replay
   pub ended : new.told_end ≡ true
@@ -28,7 +22,7 @@ pub record Replayed (words : List (List ℕ)) (old new : SourceState) (text : Li
   pub bytes : List ℕ
   pub read : IfSome old.left (λ left. bytes ≡ left)
   pub short : length bytes ≤ most_script
-  pub replays : IsReplayText bytes text
+  pub plays : Plays bytes text
 
 -- the source was read to its end without a fault, and what it gave is a script whose configuration has this first fault
 pub record HasFault (words : List (List ℕ)) (old new : SourceState) (line rule : ℕ) : Type 0 where
@@ -53,7 +47,7 @@ pub record MadeAllTurns (words : List (List ℕ)) (old new : SourceState) (turns
   pub same : new.faults ≡ old.faults
   pub bytes : List ℕ
   pub read : IfSome old.left (λ left. bytes ≡ left)
-  pub overruns : IsUnbuiltScript bytes × Overruns bytes turns
+  pub overruns : Overruns bytes turns
 
 -- what isn't built yet: one command, for which nothing is read
 abbrev pub IsUnbuilt : List (List ℕ) → SourceState → SourceState → Type 0
@@ -119,13 +113,13 @@ IsRun words old new sink_old sink_new status =
 
 -- what a replay of these bytes may come to
 abbrev pub IsEndingOf : List ℕ → Ending → Type 0
-IsEndingOf bytes (ending.Done text) = IsReplayText bytes text.items
+IsEndingOf bytes (ending.Done text) = Plays bytes text.items
 IsEndingOf bytes (ending.ConfigFault text) =
     (line : ℕ) × (rule : ℕ) × HasConfigFault bytes line rule × (text.items ≡ config_text line rule)
 IsEndingOf bytes (ending.ScriptFault text) =
     (line : ℕ) × (rule : ℕ) × HasScriptFault bytes line rule × (text.items ≡ script_text line rule)
 IsEndingOf bytes (ending.Overrun text) =
-    (turns : ℕ) × (IsUnbuiltScript bytes × Overruns bytes turns) × (text.items ≡ overrun_text turns)
+    (turns : ℕ) × Overruns bytes turns × (text.items ≡ overrun_text turns)
 IsEndingOf bytes ending.NoMemory = Unit {0}
 IsEndingOf bytes _ = ⊥
 

@@ -11,7 +11,7 @@ use crate::command::{Command, command_of};
 use crate::ending::{Ending, status, text};
 use crate::texts::{numbers_line, turns_line};
 use hx_link::{ReadFault, Sink, Source, read_all, write_all};
-use hx_replay_parts::{MOST_SCRIPT, Replay, replay_text};
+use hx_plays::{MOST_SCRIPT, Replay, replay_any};
 use std::alloc::Global;
 
 /// The rule of a script that is too long.
@@ -48,7 +48,7 @@ fn overrun(alloc: Global, turns: u64) -> Ending
 fn replay(alloc: Global, bytes: &[u8]) -> Ending
     ensures { IsEndingOf bytes.now result }
 {
-    match replay_text(alloc, bytes) {
+    match replay_any(alloc, bytes) {
         Ok(Replay::Text(text)) => Ending::Done(text),
         Ok(Replay::ConfigFault { line, rule }) => config_fault(alloc, line, rule),
         Ok(Replay::ScriptFault { line, rule }) => script_fault(alloc, line, rule),

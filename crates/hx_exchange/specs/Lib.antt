@@ -1,6 +1,0 @@
-pub mod Carrying
-pub mod Exchanges
-pub mod Finishing
-pub mod Passing
-pub mod Stops
-pub mod Ways

@@ -1,4 +1,0 @@
-pub mod AnsweringLemmas
-pub mod MoveLemmas
-pub mod ReplyLemmas
-pub mod RequestLemmas

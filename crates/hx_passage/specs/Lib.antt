@@ -1,5 +1,0 @@
-pub mod Moves
-pub mod Answering
-pub mod Finds
-pub mod Replies
-pub mod Requests

@@ -1,2 +1,0 @@
-pub mod ReplayParts
-pub mod Replays
