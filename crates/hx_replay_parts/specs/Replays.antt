@@ -34,8 +34,9 @@ IsOneOf bytes (one.Text text) = Replays bytes text.items
 IsOneOf bytes (one.ConfigFault line rule) = HasConfigFault bytes line rule
 IsOneOf bytes one.Other = IsUnbuiltScript bytes
 
--- a script of one exchange is replayed as such. Any other text is a script of one thread, whose text tells its servers, or has
--- a first fault, in its configuration or in a line of its own; or as many turns were made as may be
+-- a script of one exchange is replayed as such. Any other text is a script of one thread, whose text is that of a true
+-- transcript of its servers, or has a first fault, in its configuration or in a line of its own; or as many turns were made as
+-- may be
 abbrev pub IsReplayOf : List ℕ → Replay → Type 0
 IsReplayOf bytes (replay.Text text) = Replays bytes text.items ⊎ (IsUnbuiltScript bytes × Plays bytes text.items)
 IsReplayOf bytes (replay.ConfigFault line rule) = HasConfigFault bytes line rule
