@@ -3,3 +3,4 @@ pub mod Closing
 pub mod Going
 pub mod Working
 pub mod Coursing
+pub mod Ending

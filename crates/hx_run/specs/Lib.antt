@@ -1,7 +1,6 @@
 pub use Rattle.hx_worker.specs.Workers
 pub use Rattle.hx_script_parts.specs.Limits
 pub use Rattle.hx_course.specs.Lines
-pub use Rattle.hx_course.specs.Courses
 pub mod Begins
 pub mod Dues
 pub mod Overs

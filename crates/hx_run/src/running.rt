@@ -12,7 +12,7 @@ ghost use Rattle.hx_pool.specs.Journal.{Journal, journal_from};
 ghost use Rattle.hx_run.specs.Overs.{HasRoom, ClosedBelow};
 ghost use Rattle.hx_run.specs.Rooms.{RoomBelow};
 ghost use Rattle.hx_run.specs.Runs.{GoesOn, IsRun, IsWorking, IsRoomier, CarriedOut, Ticked, StopsFirst};
-ghost use Rattle.hx_run.specs.Courses.{KeepsOn};
+ghost use Rattle.hx_run.specs.Courses.{HasCourse, KeepsOn};
 ghost use Rattle.hx_course.specs.Lines.{lines_of};
 ghost use Rattle.hx_run.specs.declared.running.Halt.TheVariants as halt;
 
@@ -155,6 +155,7 @@ impl<'a> Running<'a> {
         requires plans { All IsPlan plans.items }
         ensures config { IfOk result (λ r. r.worker.config ≡ meaning config.now) }
         ensures empty { IfOk result (λ r. (r.worker.sessions ≡ []) × (r.records ≡ []) × (r.turns ≡ 0) × (r.most ≡ most)) }
+        ensures course { IfOk result HasCourse }
     {
         let seats = seats_of(alloc, config)?;
         let net = MemoryNet::new(alloc, plans, room)?;
