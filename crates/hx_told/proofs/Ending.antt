@@ -20,7 +20,7 @@ use Rattle.hx_course.specs.Graves.{clients_of as sessions_in}
 use Rattle.hx_course.specs.Lines.{lefts_of as ended_in_order}
 use Rattle.hx_script.specs.PrintedForm.{Rises, ConnBefore}
 use Rattle.hx_told.specs.Ends.{ends_of}
-use Rattle.hx_told.specs.Links.{TellsBytes, clients_of, client_links, lefts_of, conn_of, conns_of}
+use Rattle.hx_told.specs.Links.{TellsBytes, clients_of, client_links, lefts_of, conn_of}
 use Rattle.hx_told.specs.Places.{IsConnOf}
 use Rattle.hx_told.specs.Telling.{TellsLinks}
 use Rattle.hx_told.proofs.Each.{conn_told, conn_from}
@@ -47,8 +47,8 @@ dialled_owner (OfClient t n) l d own e = absurd (nothing_told l.dial d e own)
 dialled_owner OfNobody l d own e = absurd own
 
 module _ (records : List Told) (net : MemoryNetNow) (clients : List ClientBytes) (conns : List ConnBytes) (graves : List Grave)
-  (tells : TellsLinks records net clients conns) (buried : AreBuried graves net.state) (dials : (g : Grave) → Contains graves g → TellsOwner g.owner g.link)
-  (lefts : sessions_in graves ≡ ended_in_order records) (rise : Rises ConnBefore conns) where
+    (tells : TellsLinks records net clients conns) (buried : AreBuried graves net.state) (dials : (g : Grave) → Contains graves g → TellsOwner g.owner g.link)
+    (lefts : sessions_in graves ≡ ended_in_order records) (rise : Rises ConnBefore conns) where
   same_links : map state_of tells.links ≡ links_of graves
   same_links =
       ⊎_elim
@@ -90,7 +90,7 @@ module _ (records : List Told) (net : MemoryNetNow) (clients : List ClientBytes)
   -- the connection of a link that was dialled has its grave
   grave_told : (d : ℕ × ℕ) (m : MemoryLinkNow) → Contains tells.links m → m.state.dial ≡ Some d
       → (l : LinkState) × Contains graves (grave (OfConn (record { 0 = d.0 }) (record { 0 = d.1 })) l)
-          × TellsConn (ends_of net.links) (record { 0 = d.0 }) (record { 0 = d.1 }) l (conn_of d m)
+      × TellsConn (ends_of net.links) (record { 0 = d.0 }) (record { 0 = d.1 }) l (conn_of d m)
   grave_told d m there e =
       let r = beside_right Owns graves tells.links each_owned m there in
       let server : ServerNo = record { 0 = d.0 } in let id : ConnId = record { 0 = d.1 } in

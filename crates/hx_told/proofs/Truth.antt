@@ -1,5 +1,5 @@
 -- The transcript of a replay that ends a course is true.
-use Rattle.std.proofs.Common.{◌≡◌, List, All, sym, subst, Option, Result, Ok, Err}
+use Rattle.std.proofs.Common.{◌≡◌, List, All, sym, subst, Result, Ok, Err}
 use Rattle.std.specs.Prelude.{IfOk}
 use Rattle.hx_base.specs.declared.numbers.NoMemory.{NoMemory}
 use Rattle.hx_base.specs.declared.totals.Totals.{Totals}

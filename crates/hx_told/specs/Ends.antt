@@ -1,7 +1,5 @@
 -- Which connections' links told their end, and that their plans had one.
 use Rattle.std.specs.Prelude.{◌≡◌, ℕ, Bool, true, false, ◌==◌, ◌&&◌, if◌then◌else◌, List, [], ◌∷◌, Contains, Option, Some, None, IsSome}
-use Rattle.hx_base.specs.declared.numbers.ConnId.{ConnId}
-use Rattle.hx_base.specs.declared.numbers.ServerNo.{ServerNo}
 use Rattle.hx_link.specs.MemoryLinks.{MemoryLinkNow}
 use Rattle.hx_link.specs.Planned.{planned}
 use Rattle.hx_record.specs.declared.bytes.ConnBytes.{ConnBytes}
