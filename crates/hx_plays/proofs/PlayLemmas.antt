@@ -6,7 +6,7 @@ use Rattle.hx_config.specs.declared.parts.Server.{Server}
 use Rattle.hx_config.specs.declared.config.Config.{Config}
 use Rattle.hx_pool.specs.Journal.{Journal}
 use Rattle.hx_script.specs.Printed.{Spells}
-use Rattle.hx_script.specs.TrueTranscript.{AreTrueServers}
+use Rattle.hx_script.specs.TrueTranscript.{Ends, IsTrueTranscript}
 use Rattle.hx_script.specs.declared.transcript.Transcript.{Transcript}
 use Rattle.hx_script_parts.specs.Views.{meaning}
 use Rattle.hx_script_parts.specs.declared.script.Script.{Script}
@@ -47,15 +47,16 @@ pub over_ran : (a b : Config) (seats : List Journal) → b ≡ a → AreOver (al
 over_ran a b seats e o = subst (λ (c : Config). AreOver (all_servers c.backs) seats) (sym e) o
 
 -- what is told of a replay that is over
-pub tells_of : (script : Script) (config : Config) (seats : List Journal) (t : Transcript) (text : List ℕ) → config ≡ script.config → AreOver (all_servers script.config.backs) seats
-    → t.servers ≡ parts_of (named_servers config.backs) seats → AreTrueServers t.servers t.totals → Spells text t → TellsServers (meaning script) text
-tells_of script config seats t text e o s a p = record {
+pub tells_of : (script : Script) (config : Config) (seats : List Journal) (t : Transcript) (text : List ℕ) (ends : Ends) → config ≡ script.config
+    → AreOver (all_servers script.config.backs) seats → t.servers ≡ parts_of (named_servers config.backs) seats → IsTrueTranscript t ends → Spells text t
+    → TellsServers (meaning script) text
+tells_of script config seats t text ends e o s a p = record {
   transcript = t;
   spells = p;
   seats = seats;
   each = over_count (all_servers script.config.backs) seats o;
   servers = s ∙ ap (λ (c : Config). parts_of (named_servers c.backs) seats) e;
-  are_true = a;
+  is_true = (ends, a);
 }
 
 at_flaw : (bytes : List ℕ) (line rule : ℕ) (f : Flaw) → meaning_of bytes ≡ Err f → fault.At line rule ≡ fault_of f → HasScriptFault bytes line rule

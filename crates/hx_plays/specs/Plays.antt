@@ -2,7 +2,7 @@
 use Rattle.std.specs.Prelude.{◌≡◌, ℕ, ◌+◌, ◌*◌, ◌<◌, ◌⊎◌, List, length, Ok, Err}
 use Rattle.hx_config.specs.Limits.{all_servers}
 use Rattle.hx_pool.specs.Journal.{Journal}
-use Rattle.hx_script.specs.TrueTranscript.{AreTrueServers}
+use Rattle.hx_script.specs.TrueTranscript.{Ends, IsTrueTranscript}
 use Rattle.hx_script.specs.Printed.{Spells}
 use Rattle.hx_script.specs.declared.transcript.Transcript.{Transcript}
 use Rattle.hx_script_parts.specs.Faults.{code_of}
@@ -15,17 +15,17 @@ use Rattle.hx_plays.specs.declared.plays.Replay.{Replay}
 use Rattle.hx_plays.specs.declared.plays.Replay.TheVariants as replay
 
 -- the text spells a transcript whose servers are those of the configuration, in order, by name and rules, each with the marks
--- of one journal; and the marks and the totals of each are those of one legal history that keeps mode and limit, in which
--- every connection that was opened is closed at the end
+-- of one journal; and all that it tells is true, where some of the connections' links told their ends: each record, each
+-- range, and each server's marks and totals, in whose history every connection that was opened is closed at the end
 pub record TellsServers (script : Meaning) (text : List ℕ) : Type 0 where
   pub transcript : Transcript
   pub spells : Spells text transcript
   pub seats : List Journal
   pub each : length seats ≡ length (all_servers script.config.backs)
   pub servers : transcript.servers ≡ parts_of (named_servers script.config.backs) seats
-  pub are_true : AreTrueServers transcript.servers transcript.totals
+  pub is_true : (ends : Ends) × IsTrueTranscript transcript ends
 
--- the bytes are a script of one thread, and the text tells its servers
+-- the bytes are a script of one thread, and the text is that of a true transcript of its servers
 pub record Plays (bytes text : List ℕ) : Type 0 where
   pub script : Meaning
   pub reads : meaning_of bytes ≡ Ok script

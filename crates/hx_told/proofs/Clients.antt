@@ -15,13 +15,13 @@ pub record HasClients (lefts : List Left) (all links : List MemoryLinkNow) (clie
   pub within : length clients ≤ length lefts
   pub each : length (client_links all) ≡ length clients + length (client_links links)
 
-first_client : (links : List MemoryLinkNow) (m : MemoryLinkNow) → m.state.dial ≡ None → client_links (m ∷ links) ≡ m ∷ client_links links
+pub first_client : (links : List MemoryLinkNow) (m : MemoryLinkNow) → m.state.dial ≡ None → client_links (m ∷ links) ≡ m ∷ client_links links
 first_client links m is = ap (λ (d : Option (ℕ × ℕ)). cond (is_undialled d) (m ∷ client_links links) (client_links links)) is
 
-no_client : (links : List MemoryLinkNow) (m : MemoryLinkNow) (d : ℕ × ℕ) → m.state.dial ≡ Some d → client_links (m ∷ links) ≡ client_links links
+pub no_client : (links : List MemoryLinkNow) (m : MemoryLinkNow) (d : ℕ × ℕ) → m.state.dial ≡ Some d → client_links (m ∷ links) ≡ client_links links
 no_client links m d is = ap (λ (o : Option (ℕ × ℕ)). cond (is_undialled o) (m ∷ client_links links) (client_links links)) is
 
-no_links : (lefts : List Left) → clients_of lefts [] ≡ []
+pub no_links : (lefts : List Left) → clients_of lefts [] ≡ []
 no_links [] = refl
 no_links (l ∷ lefts) = refl
 

@@ -18,10 +18,10 @@ some_is a b e = cc
 
 -- ---- clients
 
-contains_first : {A : Type 0} (x : A) (xs : List A) → Contains (x ∷ xs) x
+pub contains_first : {A : Type 0} (x : A) (xs : List A) → Contains (x ∷ xs) x
 contains_first x xs = (0, omega arith, refl)
 
-contains_next : {A : Type 0} (y : A) (xs : List A) (x : A) → Contains xs x → Contains (y ∷ xs) x
+pub contains_next : {A : Type 0} (y : A) (xs : List A) (x : A) → Contains xs x → Contains (y ∷ xs) x
 contains_next y xs x h = (suc h.0, omega (arith, h.1), h.2)
 
 has_client : (lefts : List Left) (links : List MemoryLinkNow) (k : ℕ) (l : Left) (m : MemoryLinkNow) → slice_get lefts k ≡ Some l → slice_get links k ≡ Some m

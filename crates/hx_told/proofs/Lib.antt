@@ -1,5 +1,9 @@
 pub mod Clients
+pub mod Dials
 pub mod Each
+pub mod Ending
 pub mod Names
 pub mod Overs
+pub mod Owned
 pub mod Parts
+pub mod Truth

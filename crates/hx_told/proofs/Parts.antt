@@ -1,13 +1,9 @@
 -- Servers with the journals of their seats.
-use Rattle.std.proofs.Common.{◌≡◌, ℕ, ◌+◌, ◌<◌, List, [], ◌∷◌, ◌++◌, length, drop, sym, ap, ◌∙◌, subst, append_assoc, arith, refl, zero, suc, get_or, Some, Result, Ok, Err}
-use Rattle.std.specs.Prelude.{slice_get, IfOk}
+use Rattle.std.proofs.Common.{◌≡◌, ℕ, ◌+◌, ◌<◌, List, [], ◌∷◌, ◌++◌, length, drop, sym, ap, ◌∙◌, subst, append_assoc, arith, refl, zero, suc, get_or, Some}
+use Rattle.std.specs.Prelude.{slice_get}
 use Rattle.std.proofs.lemmas.List.{drop_more}
-use Rattle.hx_base.specs.declared.numbers.NoMemory.{NoMemory}
-use Rattle.hx_base.specs.declared.totals.Totals.{Totals}
 use Rattle.hx_pool.specs.Journal.{Journal}
 use Rattle.hx_script.specs.declared.transcript.ServerPart.{ServerPart}
-use Rattle.hx_script.specs.declared.transcript.Transcript.{Transcript}
-use Rattle.hx_script.specs.TrueTranscript.{AreTrueServers}
 use Rattle.hx_told.specs.declared.servers.Named.{Named}
 use Rattle.hx_told.specs.Servers.{part_of, parts_of}
 
@@ -33,13 +29,6 @@ pub parts_more : (all done : List ServerPart) (n : Named) (names : List Named) (
 parts_more all done n names seats j at so low is =
     so ∙ ap (λ (js : List Journal). done ++ parts_of (n ∷ names) js) (drop_more seats at j low ∙ ap (λ (k : Journal). k ∷ drop (at + 1) seats) (sym is))
     ∙ sym (append_assoc done (part_of n j ∷ []) (parts_of names (drop (at + 1) seats)))
-
--- a transcript's servers are true where they are these
-pub ok_true : (r : Result Transcript NoMemory) (servers : List ServerPart) (totals : List Totals) → IfOk r (λ t. t.servers ≡ servers) → IfOk r (λ t. t.totals ≡ totals)
-    → AreTrueServers servers totals → IfOk r (λ t. AreTrueServers t.servers t.totals)
-ok_true (Ok t) servers totals s u a =
-    subst (λ (ps : List ServerPart). AreTrueServers ps t.totals) (sym s) (subst (λ (ss : List Totals). AreTrueServers servers ss) (sym u) a)
-ok_true (Err e) servers totals s u a = tt
 
 pub no_items : {A : Type 0} (xs : List A) → length xs ≡ 0 → xs ≡ []
 no_items [] e = refl

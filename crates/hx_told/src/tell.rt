@@ -1,9 +1,11 @@
 //! What a whole replay did, told as a transcript.
 ghost use Rattle.std.specs.Prelude.{◌≡◌, All, IfOk, length};
 ghost use Rattle.hx_config.specs.Limits.{all_servers};
+ghost use Rattle.hx_run.specs.Courses.{EndsCourse};
 ghost use Rattle.hx_run.specs.Overs.{AreOver};
 ghost use Rattle.hx_script.specs.PrintedForm.{ClientBefore, ConnBefore, Rises, IsToldServer};
-ghost use Rattle.hx_script.specs.TrueTranscript.{AreTrueServers};
+ghost use Rattle.hx_script.specs.TrueTranscript.{IsTrueTranscript};
+ghost use Rattle.hx_told.specs.Ends.{ends_of, EndsByPlan};
 ghost use Rattle.hx_told.specs.Servers.{named_servers, parts_of, all_sums};
 ghost use Rattle.hx_told.specs.Telling.{TellsLinks};
 
@@ -78,7 +80,7 @@ fn put_together(
 
 /// The transcript of a replay that is over: the configuration's servers with the marks and the totals of their seats, the
 /// records, and the bytes of all links that were buried. The k-th session that ended is that of the k-th link that was
-/// buried and not dialled.
+/// buried and not dialled. All that it tells is true, and a connection ended just where its link told its end.
 ///
 /// # Errors
 /// `NoMemory` for want of memory, now or before, so that a mark or a byte isn't kept; and where the parts don't fit
@@ -86,7 +88,9 @@ fn put_together(
 /// of one name, or a mark, a record or a connection that no line tells.
 pub fn tell_run(alloc: Global, ran: Ran) -> Result<Transcript, NoMemory>
     requires over { AreOver (all_servers ran.config.backs) ran.seats }
-    ensures true_servers { IfOk result (λ t. AreTrueServers t.servers t.totals) }
+    requires course { EndsCourse ran.records ran.net.state }
+    ensures is_true { IfOk result (λ t. IsTrueTranscript t (ends_of ran.net.links)) }
+    ensures ended { IfOk result (λ t. All (EndsByPlan ran.net.links) t.conns) }
     ensures servers { IfOk result (λ t. t.servers
         ≡ parts_of (named_servers ran.config.backs) ran.seats) }
     ensures totals { IfOk result (λ t. t.totals ≡ all_sums ran.seats) }
