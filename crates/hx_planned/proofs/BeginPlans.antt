@@ -8,10 +8,10 @@ use Rattle.hx_base.specs.declared.numbers.ServerNo.{ServerNo}
 use Rattle.hx_base.specs.declared.numbers.SessionNo.{SessionNo}
 use Rattle.hx_base.specs.declared.numbers.ThreadNo.{ThreadNo}
 use Rattle.hx_base.specs.declared.plan.Plan.{Plan}
-use Rattle.hx_base.specs.declared.what.What.{What}
+use Rattle.hx_conn.specs.WhatTold.{what_of_link}
 use Rattle.hx_config.specs.Meaning.{Meaning}
 use Rattle.hx_link.specs.Courses.{Course}
-use Rattle.hx_link.specs.Nets.{NetState}
+use Rattle.hx_link.specs.Nets.{DialTold, NetState, StaysTold}
 use Rattle.hx_link.specs.Told.{LinkState}
 use Rattle.hx_pool.specs.declared.entries.Note.{Note}
 use Rattle.hx_pool.specs.History.{table_after}
@@ -19,14 +19,14 @@ use Rattle.hx_pool.specs.SeatView.{History}
 use Rattle.hx_pool.specs.Table.{Unopened, IdleAt}
 use Rattle.hx_connecting.specs.Journals.{JournalRoom}
 use Rattle.hx_connecting.specs.Links.{LeavesPlans, CourseStays, plans_of}
-use Rattle.hx_connecting.specs.Sessions.{SessionNow, Holding, admitted}
+use Rattle.hx_connecting.specs.Sessions.{SessionNow, admitted}
 use Rattle.hx_worker.specs.Admitting.{Admits}
 use Rattle.hx_worker.specs.Workers.{WorkerNow, session_of, new_worker}
-use Rattle.hx_course.specs.Graves.{Grave, Owner, OfClient, OfConn, OfNobody, grave}
-use Rattle.hx_course.specs.Places.{ClientIs, IsClientOf, IsHeld, IsAtRest, ConnIs}
-use Rattle.hx_course.proofs.Numbers.{session_more}
+use Rattle.hx_course.specs.Graves.{Grave, OfClient, OfConn, OfNobody, grave}
+use Rattle.hx_course.proofs.Numbers.{some_is, session_more}
 use Rattle.hx_course.proofs.TableLemmas.{none_in, one_in}
-use Rattle.hx_planned.specs.Plans.{nth_plan, FollowsNumber, FollowsId, ClientsFollow, ConnsFollow, LeavesRest, KeepsPlans}
+use Rattle.hx_planned.specs.Plans.{nth_plan, FollowsNumber, FollowsId, ClientsFollow, ConnsFollow, DialsFollow, LeavesRest, KeepsPlans}
+use Rattle.hx_planned.proofs.DialPlans.{dials_stay}
 use Rattle.hx_planned.proofs.PlanLists.{got_before, got_last, length_more}
 
 -- a net that tells what is to come as it did, with the same plans left
@@ -39,8 +39,8 @@ course_on net net' plans seats stays n =
 -- ---- a course begins
 
 pub plans_begin : (t : ThreadNo) (config : Meaning) (seats : List History) (journals : List JournalRoom) (net : NetState) (c : Course) → ((i : ℕ) (h : History) → slice_get seats i ≡ Some h → h.seen ≡ [])
-    → net.course ≡ Some c → KeepsPlans [] c.plans (new_worker t config seats journals) net []
-plans_begin t config seats journals net c unused told = record { count = refl; clients = no_client; conns = no_conn; next = (c, told, all_left) }
+    → net.course ≡ Some c → StaysTold (Some []) net.dials → KeepsPlans [] c.plans (new_worker t config seats journals) net []
+plans_begin t config seats journals net c unused told undialled = record { count = refl; clients = no_client; conns = no_conn; dials = dials_stay c.plans (Some []) net.dials undialled no_dial; next = (c, told, all_left) }
   where
     no_client : ClientsFollow [] [] [] t
     no_client n l (inl k) = let none = k.there in cc
@@ -51,6 +51,9 @@ plans_begin t config seats journals net c unused told = record { count = refl; c
     no_conn server id v (inr (inl r)) =
         let none : Unopened ≡ IdleAt r.place = sym (ap (λ (H : List Note). (table_after H).conns id.0) (unused server.0 r.seat r.at)) ∙ r.rests in cc
     no_conn server id v (inr (inr g)) = absurd (none_in (grave (OfConn server id) g.link) g.there)
+
+    no_dial : DialsFollow c.plans (Some [])
+    no_dial ds e d there = let is : [] ≡ ds = some_is [] ds e in absurd (none_in d (subst (λ (xs : List DialTold). Contains xs d) (sym is) there))
 
     all_left : LeavesRest c.plans seats c.plans
     all_left server h at k =
@@ -93,11 +96,12 @@ module _ (w : WorkerNow) (client : LinkState) (front : ℕ) (now : Millis) (n : 
       (session_more w.sessions s h.session.number.0 h.session h.there)
 
 pub plans_admit : (w w' : WorkerNow) (net net' : NetState) (client : LinkState) (front : ℕ) (now : Millis) (n : SessionNo) (p : Plan) → Admits w w' client front now n → client.plan ≡ Some p → CourseStays net net'
-    → (came plans : List Plan) (graves : List Grave) → KeepsPlans came plans w net graves → KeepsPlans (came ++ p ∷ []) plans w' net' graves
-plans_admit w w' net net' client front now n p k plan stays came plans graves have = subst (λ (z : WorkerNow). KeepsPlans (came ++ p ∷ []) plans z net' graves) (sym k.admits) (record {
+    → StaysTold net.dials net'.dials → (came plans : List Plan) (graves : List Grave) → KeepsPlans came plans w net graves → KeepsPlans (came ++ p ∷ []) plans w' net' graves
+plans_admit w w' net net' client front now n p k plan stays dials came plans graves have = subst (λ (z : WorkerNow). KeepsPlans (came ++ p ∷ []) plans z net' graves) (sym k.admits) (record {
   count = ap (λ (m : ℕ). m + 1) have.count ∙ sym (length_more came p);
   clients = clients_admit w client front now n p k.number plan came plans graves have.count have.clients;
   conns = conns_admit w client front now n p k.number plan came plans graves have.count have.conns;
+  dials = dials_stay plans net.dials net'.dials dials have.dials;
   next = course_on net net' plans w.seats stays have.next;
 })
 
@@ -110,9 +114,9 @@ nobody_client client t n l c = let e : OfNobody ≡ OfClient t n = ap (λ (g : G
 nobody_conn : (client : LinkState) (server : ServerNo) (id : ConnId) (l : LinkState) → Contains (grave OfNobody client ∷ []) (grave (OfConn server id) l) → ⊥
 nobody_conn client server id l c = let e : OfNobody ≡ OfConn server id = ap (λ (g : Grave). g.owner) (one_in (grave OfNobody client) (grave (OfConn server id) l) c) in cc
 
-pub plans_turned : (w : WorkerNow) (net net' : NetState) (client : LinkState) → CourseStays net net' → (came plans : List Plan) (graves : List Grave) → KeepsPlans came plans w net graves
+pub plans_turned : (w : WorkerNow) (net net' : NetState) (client : LinkState) → CourseStays net net' → StaysTold net.dials net'.dials → (came plans : List Plan) (graves : List Grave) → KeepsPlans came plans w net graves
     → KeepsPlans came plans w net' (graves ++ grave OfNobody client ∷ [])
-plans_turned w net net' client stays came plans graves have = record { count = have.count; clients = clients_on; conns = conns_on; next = course_on net net' plans w.seats stays have.next }
+plans_turned w net net' client stays dials came plans graves have = record { count = have.count; clients = clients_on; conns = conns_on; dials = dials_stay plans net.dials net'.dials dials have.dials; next = course_on net net' plans w.seats stays have.next }
   where
     clients_on : ClientsFollow came w.sessions (graves ++ grave OfNobody client ∷ []) w.thread
     clients_on n l (inl k) = have.clients n l (inl k)
@@ -128,3 +132,11 @@ plans_turned w net net' client stays came plans graves have = record { count = h
         (λ (old : Contains graves (grave (OfConn server id) g.link)). have.conns server id v (inr (inr (record { link = g.link; there = old; tells = g.tells }))))
         (λ (new : Contains (grave OfNobody client ∷ []) (grave (OfConn server id) g.link)). absurd (nobody_conn client server id g.link new))
         (Contains-append_cases graves (grave OfNobody client ∷ []) (grave (OfConn server id) g.link) g.there)
+
+-- ---- what was buried
+
+pub graves_follow : (w : WorkerNow) (net : NetState) (came plans : List Plan) (graves : List Grave) → KeepsPlans came plans w net graves
+    → ((n : SessionNo) (l : LinkState) → Contains graves (grave (OfClient w.thread n) l) → FollowsNumber came n l.plan)
+    × ((server : ServerNo) (id : ConnId) (l : LinkState) → Contains graves (grave (OfConn server id) l) → FollowsId plans server id l.plan)
+graves_follow w net came plans graves have =
+    (λ n l c. have.clients n l (inr c), λ server id l c. have.conns server id (what_of_link l) (inr (inr (record { link = l; there = c; tells = refl }))))

@@ -1,5 +1,6 @@
 pub mod PlanLists
 pub mod Opens
+pub mod DialPlans
 pub mod TouchPlans
 pub mod BeginPlans
 pub mod StepPlans

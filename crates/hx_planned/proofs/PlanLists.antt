@@ -1,10 +1,12 @@
 -- Lists of plans, by server.
 use Rattle.std.proofs.Common.{◌≡◌, ℕ, zero, suc, ◌+◌, Bool, true, false, cond, List, [], ◌∷◌, ◌++◌, length, refl, sym, ap, ◌∙◌, subst, arith, Option, Some, None, eqb-true, ne_eqb}
-use Rattle.std.specs.Prelude.{◌==◌, filter, slice_get, if◌then◌else◌}
+use Rattle.std.specs.Prelude.{slice_get, Contains}
+use Rattle.std.proofs.lemmas.List.Elements.{Contains-append_left, Contains-append_right, Contains-push}
 use Rattle.hx_base.specs.declared.numbers.ServerNo.{ServerNo}
 use Rattle.hx_base.specs.declared.plan.Plan.{Plan}
 use Rattle.hx_link.specs.Courses.{is_server, next_plan, without_next}
-use Rattle.hx_planned.specs.Plans.{is_for, plans_for, nth_plan}
+use Rattle.hx_course.proofs.Numbers.{some_is}
+use Rattle.hx_planned.specs.Plans.{plans_for, nth_plan}
 
 -- a server's next plan is the first of its plans
 pub next_first : (server : ServerNo) (plans : List Plan) → nth_plan server 0 plans ≡ next_plan server plans
@@ -56,3 +58,21 @@ got_last (y ∷ xs) x = got_last xs x
 pub length_more : {A : Type 0} (xs : List A) (x : A) → length (xs ++ x ∷ []) ≡ length xs + 1
 length_more [] x = refl
 length_more (y ∷ xs) x = let r = length_more xs x in omega arith
+
+-- ---- whose a plan is
+
+-- a plan that is found is one of the list, and its server's
+pub nth_among : (server : ServerNo) (k : ℕ) (plans : List Plan) (p : Plan) → nth_plan server k plans ≡ Some p → Contains plans p × (is_server server p.server ≡ true)
+nth_among server k [] p e = cc
+nth_among server k (q ∷ plans) p e = by_bool (is_server server q.server) refl k (λ j. nth_among server j plans p) e
+  where
+    behind : Contains plans p × (is_server server p.server ≡ true) → Contains (q ∷ plans) p × (is_server server p.server ≡ true)
+    behind r = (Contains-append_right (q ∷ []) plans p r.0, r.1)
+
+    by_bool : (b : Bool) → is_server server q.server ≡ b → (i : ℕ) → ((j : ℕ) → nth_plan server j plans ≡ Some p → Contains plans p × (is_server server p.server ≡ true))
+        → slice_get (cond b (q ∷ plans_for server plans) (plans_for server plans)) i ≡ Some p → Contains (q ∷ plans) p × (is_server server p.server ≡ true)
+    by_bool true its zero rest e =
+        let is : q ≡ p = some_is q p e in
+        (subst (λ (z : Plan). Contains (q ∷ plans) z) is (Contains-append_left (q ∷ []) plans q (Contains-push [] q)), ap (λ (z : Plan). is_server server z.server) (sym is) ∙ its)
+    by_bool true its (suc i) rest e = behind (rest i e)
+    by_bool false its i rest e = behind (rest i e)

@@ -1,5 +1,5 @@
 -- A worker's step keeps that each link follows its plan.
-use Rattle.std.proofs.Common.{◌≡◌, ◌⊎◌, ⊎_elim, inl, inr, Bool, true, false, List, [], ◌∷◌, ◌++◌, length, refl, sym, ap, ◌∙◌, subst, Option, Some, None}
+use Rattle.std.proofs.Common.{◌≡◌, ◌⊎◌, ⊎_elim, inl, inr, Bool, true, false, List, ◌++◌, refl, sym, ap, ◌∙◌, subst, Option, Some, None}
 use Rattle.std.specs.Prelude.{Contains}
 use Rattle.std.proofs.lemmas.List.Elements.{Contains-append_cases}
 use Rattle.hx_base.specs.declared.numbers.ConnId.{ConnId}
@@ -11,7 +11,6 @@ use Rattle.hx_base.specs.declared.what.What.{What}
 use Rattle.hx_link.specs.Courses.{Course}
 use Rattle.hx_link.specs.Nets.{NetState}
 use Rattle.hx_link.specs.Told.{LinkState}
-use Rattle.hx_pool.specs.SeatView.{History}
 use Rattle.hx_record.specs.declared.served.Served.{Served}
 use Rattle.hx_record.specs.declared.served.Told.{Told}
 use Rattle.hx_connecting.specs.Exchanges.{ExchangeGoes}
@@ -26,13 +25,14 @@ use Rattle.hx_worker.specs.Steps.{Steps, BuriesClient, gone_of, placed}
 use Rattle.hx_worker.specs.Workers.{WorkerNow, session_of}
 use Rattle.hx_course.specs.Calls.{HadFor, step_touched, step_graves}
 use Rattle.hx_course.specs.Courses.{KeepsCourse}
-use Rattle.hx_course.specs.Graves.{Grave, Owner, OfClient, OfConn, grave, conn_graves, client_graves}
+use Rattle.hx_course.specs.Graves.{Grave, OfClient, OfConn, grave, client_graves}
 use Rattle.hx_course.proofs.ClientLemmas.{not_conn}
 use Rattle.hx_course.proofs.Numbers.{some_is, found_number}
 use Rattle.hx_course.proofs.StepLemmas.{conn_grave_is, no_conn_grave}
 use Rattle.hx_course.proofs.TableLemmas.{none_in, one_in}
-use Rattle.hx_planned.specs.Plans.{ClientsFollow, ConnsFollow, LeavesRest, KeepsPlans}
-use Rattle.hx_planned.proofs.TouchPlans.{OneGoes, clients_go, conns_go, rest_go}
+use Rattle.hx_planned.specs.Plans.{ClientsFollow, ConnsFollow, DialsFollow, LeavesRest, KeepsPlans}
+use Rattle.hx_planned.proofs.DialPlans.{dials_stay}
+use Rattle.hx_planned.proofs.TouchPlans.{OneGoes, clients_go, conns_go, rest_go, dials_go}
 
 -- ---- graves
 
@@ -70,6 +70,10 @@ conn_from graves closed over a server id l c =
 pub course_buried : (over : Bool) (client : LinkState) (mid net' : NetState) → BuriesClient over client mid net' → net'.course ≡ mid.course
 course_buried false client mid net' b = ap (λ (z : NetState). z.course) b
 course_buried true client mid net' b = b.1.course
+
+pub dials_buried : (plans : List Plan) (over : Bool) (client : LinkState) (mid net' : NetState) → BuriesClient over client mid net' → DialsFollow plans mid.dials → DialsFollow plans net'.dials
+dials_buried plans false client mid net' b = dials_stay plans mid.dials net'.dials (inl (ap (λ (z : NetState). z.dials) b))
+dials_buried plans true client mid net' b = dials_stay plans mid.dials net'.dials b.1.dials
 
 -- ---- the touched connection of a step
 
@@ -148,11 +152,16 @@ module _ (w w' : WorkerNow) (net net' : NetState) (n : SessionNo) (r : Step) (k 
   rest_step = rest_go plans w.sessions w.last s a w.seats w'.seats d.added (is_first s) net k.mid x (gone_of d x t) graves (graves ++ more) keeps.owners.rise there
       k.step.same.session.worker k.step.same.session.number k.step.links.touches.adds keeps.alone (step_none d x t) (step_one d x t) conn_grave have.conns c have.next.1 have.next.2
 
+  dials_step : DialsFollow plans k.mid.dials
+  dials_step = dials_go plans w.sessions w.last s a w.seats w'.seats d.added (is_first s) net k.mid x (gone_of d x t) graves (graves ++ more) keeps.owners.rise there
+      k.step.same.session.worker k.step.same.session.number k.step.links.touches.adds keeps.alone (step_none d x t) (step_one d x t) conn_grave have.conns c have.next.1 have.next.2 have.dials
+
   pub plans_step : KeepsPlans came plans w' net' (graves ++ more)
   plans_step = record {
     count = k.stays.last ∙ have.count;
     clients = subst (λ (th : ThreadNo). ClientsFollow came w'.sessions (graves ++ more) th) (sym k.stays.thread)
         (subst (λ (ss : List SessionNow). ClientsFollow came ss (graves ++ more) w.thread) (sym k.sessions) clients_step);
     conns = subst (λ (ss : List SessionNow). ConnsFollow plans ss w'.seats (graves ++ more)) (sym k.sessions) conns_step;
+    dials = dials_buried plans a.over a.client k.mid net' k.buries dials_step;
     next = (rest_step.0, course_buried a.over a.client k.mid net' k.buries ∙ rest_step.1, rest_step.2);
   }

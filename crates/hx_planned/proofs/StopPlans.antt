@@ -1,5 +1,5 @@
 -- The stop of a worker's session keeps that each link follows its plan.
-use Rattle.std.proofs.Common.{◌≡◌, ◌⊎◌, ⊎_elim, inl, inr, Bool, true, List, [], ◌∷◌, ◌++◌, length, refl, sym, ap, ◌∙◌, subst, Option, Some, None, eq-eqb}
+use Rattle.std.proofs.Common.{◌≡◌, ◌⊎◌, ⊎_elim, inl, inr, Bool, true, List, ◌∷◌, ◌++◌, refl, sym, ap, ◌∙◌, subst, Option, Some, None, eq-eqb}
 use Rattle.std.specs.Prelude.{Contains, if◌then◌else◌}
 use Rattle.hx_base.specs.declared.numbers.ConnId.{ConnId}
 use Rattle.hx_base.specs.declared.numbers.ServerNo.{ServerNo}
@@ -24,14 +24,14 @@ use Rattle.hx_worker.specs.Stops.{StopsOne, stop_gone_of}
 use Rattle.hx_worker.specs.Workers.{WorkerNow, session_of}
 use Rattle.hx_course.specs.Calls.{HadFor, stop_touched, stopping_of, stop_graves}
 use Rattle.hx_course.specs.Courses.{KeepsCourse}
-use Rattle.hx_course.specs.Graves.{Grave, OfClient, OfConn, grave, client_graves}
+use Rattle.hx_course.specs.Graves.{Grave, OfClient, OfConn, grave}
 use Rattle.hx_course.proofs.ClientLemmas.{not_conn}
 use Rattle.hx_course.proofs.Numbers.{some_is}
 use Rattle.hx_course.proofs.StepLemmas.{conn_grave_is}
 use Rattle.hx_course.proofs.TableLemmas.{none_in}
-use Rattle.hx_planned.specs.Plans.{ClientsFollow, ConnsFollow, LeavesRest, KeepsPlans}
-use Rattle.hx_planned.proofs.StepPlans.{client_from, conn_from, course_buried}
-use Rattle.hx_planned.proofs.TouchPlans.{OneGoes, clients_go, conns_go, rest_go}
+use Rattle.hx_planned.specs.Plans.{ClientsFollow, ConnsFollow, DialsFollow, LeavesRest, KeepsPlans}
+use Rattle.hx_planned.proofs.StepPlans.{client_from, conn_from, course_buried, dials_buried}
+use Rattle.hx_planned.proofs.TouchPlans.{OneGoes, clients_go, conns_go, rest_go, dials_go}
 
 -- ---- a stopped session
 
@@ -143,11 +143,16 @@ module _ (w w' : WorkerNow) (net net' : NetState) (x : Stopped) (k : StopsOne w 
   rest_stop = rest_go plans w.sessions w.last s a w.seats w'.seats d.added (is_first s) net k.mid z (stop_gone_of d z t) graves (graves ++ more) keeps.owners.rise there worker number
       (k.stop.links w.turns).adds keeps.alone (stop_none d z t) (stop_one d z t) conn_grave have.conns c have.next.1 have.next.2
 
+  dials_stop : DialsFollow plans k.mid.dials
+  dials_stop = dials_go plans w.sessions w.last s a w.seats w'.seats d.added (is_first s) net k.mid z (stop_gone_of d z t) graves (graves ++ more) keeps.owners.rise there worker number
+      (k.stop.links w.turns).adds keeps.alone (stop_none d z t) (stop_one d z t) conn_grave have.conns c have.next.1 have.next.2 have.dials
+
   pub plans_stop : KeepsPlans came plans w' net' (graves ++ more)
   plans_stop = record {
     count = k.stays.last ∙ have.count;
     clients = subst (λ (th : ThreadNo). ClientsFollow came w'.sessions (graves ++ more) th) (sym k.stays.thread)
         (subst (λ (ss : List SessionNow). ClientsFollow came ss (graves ++ more) w.thread) gone clients_stop);
     conns = subst (λ (ss : List SessionNow). ConnsFollow plans ss w'.seats (graves ++ more)) gone conns_stop;
+    dials = dials_buried plans true k.client k.mid net' k.buries dials_stop;
     next = (rest_stop.0, course_buried true k.client k.mid net' k.buries ∙ rest_stop.1, rest_stop.2);
   }

@@ -1,7 +1,7 @@
 -- A call of one session: the link of each client and of each connection follows its plan behind it, and what is left is the rest of
 -- the plans.
-use Rattle.std.proofs.Common.{◌≡◌, ◌⊎◌, ⊎_elim, inl, inr, ℕ, suc, ◌+◌, Bool, true, false, cond, List, [], ◌∷◌, ◌++◌, refl, sym, ap, ◌∙◌, subst, arith, Option, Some, None}
-use Rattle.std.specs.Prelude.{IfSome, Contains, slice_get, ◌-◌}
+use Rattle.std.proofs.Common.{◌≡◌, ◌⊎◌, ⊎_elim, inl, inr, ℕ, suc, ◌+◌, Bool, true, false, not, cond, List, [], ◌∷◌, ◌++◌, refl, sym, ap, ◌∙◌, subst, arith, Option, Some, None}
+use Rattle.std.specs.Prelude.{IfSome, Contains, slice_get, ◌-◌, ◌≤◌}
 use Rattle.std.proofs.lemmas.List.Elements.{Contains-append_right, Contains-push}
 use mathlib.Core.Logic.{dite}
 use native.Mathlib.Decide.{ℕ_discrete}
@@ -14,8 +14,8 @@ use Rattle.hx_base.specs.declared.numbers.ThreadNo.{ThreadNo}
 use Rattle.hx_base.specs.declared.plan.Plan.{Plan}
 use Rattle.hx_base.specs.declared.what.What.{What}
 use Rattle.hx_conn.specs.WhatTold.{what_of_link}
-use Rattle.hx_link.specs.Courses.{Course, next_plan, without_next}
-use Rattle.hx_link.specs.Nets.{NetState}
+use Rattle.hx_link.specs.Courses.{Course, next_plan, without_next, refuses}
+use Rattle.hx_link.specs.Nets.{DialTold, NetState, told_dial}
 use Rattle.hx_link.specs.Told.{LinkState}
 use Rattle.hx_pool.specs.declared.entries.Entry.{Entry}
 use Rattle.hx_pool.specs.declared.entries.Entry.TheVariants.{Open, Park, Take, Close}
@@ -36,8 +36,9 @@ use Rattle.hx_course.specs.Places.{ClientIs, IsHeld, IsAtRest, IsInGrave, ConnIs
 use Rattle.hx_course.proofs.ConnLemmas.{adds_back}
 use Rattle.hx_course.proofs.GoingLemmas.{adds_new, from_zero, marks_here, marks_past, touch_spares, conn_is, server_is, goes_from}
 use Rattle.hx_course.proofs.Numbers.{some_is, number_is}
-use Rattle.hx_course.proofs.TableLemmas.{table_alone, legal_alone, AllSpare, spared, NoParks, what_before, first_needs, park_rests, closed_by, held_one}
-use Rattle.hx_planned.specs.Plans.{nth_plan, FollowsNumber, FollowsId, ClientsFollow, ConnsFollow, LeavesRest}
+use Rattle.hx_course.proofs.TableLemmas.{one_in, table_alone, legal_alone, AllSpare, spared, NoParks, what_before, first_needs, park_rests, closed_by, held_one}
+use Rattle.hx_planned.specs.Plans.{nth_plan, FollowsNumber, FollowsId, FollowsDial, ClientsFollow, ConnsFollow, DialsFollow, LeavesRest}
+use Rattle.hx_planned.proofs.DialPlans.{dials_more, dials_none}
 use Rattle.hx_planned.proofs.Opens.{opens, next_along, next_low, open_next, came_opens, touch_opens}
 use Rattle.hx_planned.proofs.PlanLists.{next_first, nth_behind, nth_other}
 
@@ -178,18 +179,45 @@ module _ (plans : List Plan) (ss : List SessionNow) (last : ℕ) (s a : SessionN
     dialled v after false tag f (inl q) = let no : false ≡ true = q.0 in cc
     dialled v after false tag f (inr q) = let no = sym after ∙ q.1 in cc
 
-    -- one that was opened follows the server's next plan, and has the next number
-    opened_follows : (v : What) → k.goes.after ≡ Some v → y.came ≡ Opened → DialsFor y Opened net net' k.goes.after → Its v
-    opened_follows v after came d =
+    -- one that was opened has the next number, and that names the server's next plan
+    opened_plan : y.came ≡ Opened → (1 ≤ y.id.0) × (nth_plan y.server (y.id.0 - 1) plans ≡ next_plan y.server c.plans)
+    opened_plan came =
         let t = s.worker in let n = s.number in
         let g = before.0 in
         let T = table_after g.seen in
         let marks : marks_of k.es ≡ Open t n y.id ∷ went_marks t n y.id y.went = marks_for Opened y.went came refl in
         let id : y.id.0 ≡ T.next = open_next T k.es t n y.id (went_marks t n y.id y.went) (legal_alone g k.history k.es before.2 (alone y.server.0 g before.1)) marks in
         let low = next_low g.seen in
-        let p = dialled v after d.0 d.1 (subst (λ (o : Option Course). IfSome o (λ q. DialFollows y q net' d.0 k.goes.after)) told d.3) d.5 in
         let at : y.id.0 - 1 ≡ T.next - 1 + 0 = omega (arith, id) in
-        record { low = omega (arith, id, low); plan = (p.0, ap (λ (i : ℕ). nth_plan y.server i plans) at ∙ (sym (rest y.server g before.1 0) ∙ (next_first y.server c.plans ∙ p.1)), p.2) }
+        (omega (arith, id, low), ap (λ (i : ℕ). nth_plan y.server i plans) at ∙ (sym (rest y.server g before.1 0) ∙ next_first y.server c.plans))
+
+    -- where its dial was told
+    dial_follows : (d : DialsFor y Opened net net' k.goes.after) → DialFollows y c net' d.0 k.goes.after
+    dial_follows d = subst (λ (o : Option Course). IfSome o (λ q. DialFollows y q net' d.0 k.goes.after)) told d.3
+
+    opened_follows : (v : What) → k.goes.after ≡ Some v → y.came ≡ Opened → DialsFor y Opened net net' k.goes.after → Its v
+    opened_follows v after came d =
+        let its = opened_plan came in
+        let p = dialled v after d.0 d.1 (dial_follows d) d.5 in
+        record { low = its.0; plan = (p.0, its.1 ∙ p.1, p.2) }
+
+    -- a dial fails exactly where that plan refuses or isn't there
+    answered_so : (answered : Bool) → DialFollows y c net' answered k.goes.after → (ds : List DialTold) → net'.dials ≡ Some ds → refuses (next_plan y.server c.plans) ≡ not answered
+    answered_so true f ds told_dials = ap refuses f.1 ∙ f.2
+    answered_so false f ds told_dials = ⊎_elim
+        (λ (e : refuses (next_plan y.server c.plans) ≡ true). e)
+        (λ (e : net'.dials ≡ None). let no : None ≡ Some ds = sym e ∙ told_dials in cc) f
+
+    new_dial : y.came ≡ Opened → (d : DialsFor y Opened net net' k.goes.after) (ds : List DialTold) → net'.dials ≡ Some ds → (z : DialTold) → Contains (told_dial y.server y.id d.0 d.1 ∷ []) z → FollowsDial plans z
+    new_dial came d ds told_dials z there =
+        let its = opened_plan came in
+        subst (λ (q : DialTold). FollowsDial plans q) (one_in (told_dial y.server y.id d.0 d.1) z there)
+        (record { low = its.0; plan = ap refuses its.1 ∙ answered_so d.0 (dial_follows d) ds told_dials })
+
+    dials_came : (q : Came) → y.came ≡ q → DialsFor y q net net' k.goes.after → DialsFollow plans net.dials → DialsFollow plans net'.dials
+    dials_came Had e d = dials_none plans net.dials net'.dials d.0
+    dials_came Opened e d = dials_more plans (told_dial y.server y.id d.0 d.1 ∷ []) net.dials net'.dials d.2 (new_dial e d)
+    dials_came (Took place uses) e d = dials_none plans net.dials net'.dials d.0
 
     -- the touched connection behind the call
     after_follows : (v : What) → k.goes.after ≡ Some v → Its v
@@ -427,3 +455,12 @@ module _ (plans : List Plan) (ss : List SessionNow) (last : ℕ) (s a : SessionN
 
   pub rest_go : Left
   rest_go = left_by x refl
+
+  -- ---- dials
+
+  dials_by : (o : Option Touch) → x ≡ o → DialsFollow plans net.dials → DialsFollow plans net'.dials
+  dials_by None is = dials_none plans net.dials net'.dials (none is).dials
+  dials_by (Some y) is = let k = (some y is).0 in dials_came y is k y.came refl k.goes.dials
+
+  pub dials_go : DialsFollow plans net.dials → DialsFollow plans net'.dials
+  dials_go = dials_by x refl

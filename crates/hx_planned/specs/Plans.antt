@@ -1,14 +1,14 @@
 -- Over a course of a worker's calls the link of each client and of each connection follows its plan: the client's of session n
 -- the n-th plan of those that came, and the connection's of id k the k-th plan of its server.
-use Rattle.std.specs.Prelude.{◌≡◌, ◌≤◌, ℕ, ◌+◌, ◌-◌, Bool, List, length, filter, Option, Some, slice_get}
+use Rattle.std.specs.Prelude.{◌≡◌, ◌≤◌, ℕ, ◌+◌, ◌-◌, Bool, not, List, length, filter, Contains, Option, Some, slice_get}
 use Rattle.hx_base.specs.declared.numbers.ConnId.{ConnId}
 use Rattle.hx_base.specs.declared.numbers.ServerNo.{ServerNo}
 use Rattle.hx_base.specs.declared.numbers.SessionNo.{SessionNo}
 use Rattle.hx_base.specs.declared.numbers.ThreadNo.{ThreadNo}
 use Rattle.hx_base.specs.declared.plan.Plan.{Plan}
 use Rattle.hx_base.specs.declared.what.What.{What}
-use Rattle.hx_link.specs.Courses.{Course, is_server}
-use Rattle.hx_link.specs.Nets.{NetState}
+use Rattle.hx_link.specs.Courses.{Course, is_server, refuses}
+use Rattle.hx_link.specs.Nets.{DialTold, NetState}
 use Rattle.hx_link.specs.Told.{LinkState}
 use Rattle.hx_pool.specs.History.{table_after}
 use Rattle.hx_pool.specs.SeatView.{History}
@@ -43,6 +43,11 @@ pub record FollowsId (plans : List Plan) (server : ServerNo) (id : ConnId) (own 
   pub low : 1 ≤ id.0
   pub plan : IsPlan own (nth_plan server (id.0 - 1) plans)
 
+-- a dial uses the plan of its server that its id names, and fails exactly where that refuses or isn't there
+pub record FollowsDial (plans : List Plan) (d : DialTold) : Type 0 where
+  pub low : 1 ≤ d.id.0
+  pub plan : refuses (nth_plan d.server (d.id.0 - 1) plans) ≡ not d.answered
+
 -- each client's link that is there or was buried
 abbrev pub ClientsFollow : List Plan → List SessionNow → List Grave → ThreadNo → Type 0
 ClientsFollow came sessions graves t =
@@ -52,6 +57,10 @@ ClientsFollow came sessions graves t =
 abbrev pub ConnsFollow : List Plan → List SessionNow → List History → List Grave → Type 0
 ConnsFollow plans sessions seats graves =
     (server : ServerNo) (id : ConnId) (v : What) → ConnIs sessions seats graves server id v → FollowsId plans server id v.plan
+
+-- each dial, where the net tells its dials
+abbrev pub DialsFollow : List Plan → Option (List DialTold) → Type 0
+DialsFollow plans dials = (told : List DialTold) → dials ≡ Some told → (d : DialTold) → Contains told d → FollowsDial plans d
 
 -- of each server the plans that are left are those behind the ids that were opened: each opening used one, also where its dial failed
 abbrev pub LeavesRest : List Plan → List History → List Plan → Type 0
@@ -66,5 +75,6 @@ pub record KeepsPlans (came plans : List Plan) (w : WorkerNow) (net : NetState) 
   pub count : w.last ≡ length came
   pub clients : ClientsFollow came w.sessions graves w.thread
   pub conns : ConnsFollow plans w.sessions w.seats graves
+  pub dials : DialsFollow plans net.dials
   -- the net tells what is to come, and that is the rest of the plans
   pub next : (c : Course) × (net.course ≡ Some c) × LeavesRest plans w.seats c.plans

@@ -1,7 +1,7 @@
 //! Over a course of a worker's calls each link follows its plan in the script. Laws, whose call does nothing.
 #![tactic(auto)]
 
-ghost use Rattle.hx_planned.specs.Laws.{PlansBegin, AdmitsPlanned, TurnedPlanned, StepsPlanned, StopsPlanned, TicksPlanned, OrdersPlanned};
+ghost use Rattle.hx_planned.specs.Laws.{PlansBegin, AdmitsPlanned, TurnedPlanned, StepsPlanned, StopsPlanned, TicksPlanned, OrdersPlanned, GravesFollow};
 
 /// A course begins with all plans left, and each call of the worker keeps that each link follows its plan.
 pub fn calls_keep_plans()
@@ -12,4 +12,5 @@ pub fn calls_keep_plans()
     ensures stops { StopsPlanned }
     ensures ticks { TicksPlanned }
     ensures orders { OrdersPlanned }
+    ensures graves { GravesFollow }
 {}

@@ -1,4 +1,4 @@
-use Rattle.hx_planned.proofs.BeginPlans.{plans_begin, plans_admit, plans_turned}
+use Rattle.hx_planned.proofs.BeginPlans.{plans_begin, plans_admit, plans_turned, graves_follow}
 use Rattle.hx_planned.proofs.CarePlans.{plans_tick, plans_order}
 use Rattle.hx_planned.proofs.StepPlans.{plans_step}
 use Rattle.hx_planned.proofs.StopPlans.{plans_stop}
@@ -24,3 +24,6 @@ returns-clause-ticks c = plans_tick
 
 pub returns-clause-orders : goal.returns-clause-orders
 returns-clause-orders c = plans_order
+
+pub returns-clause-graves : goal.returns-clause-graves
+returns-clause-graves c = graves_follow
