@@ -36,6 +36,17 @@ course_on net net' plans seats stays n =
     let r = subst (λ (o : Option Course). LeavesPlans (plans_of o) o net'.course) n.1 stays in
     (r.0, r.1, λ server h at k. ap (nth_plan server k) r.2 ∙ n.2 server h at k)
 
+-- over such a net everything stands as it stood
+pub plans_net : (w : WorkerNow) (net net' : NetState) → CourseStays net net' → StaysTold net.dials net'.dials → (came plans : List Plan) (graves : List Grave) → KeepsPlans came plans w net graves
+    → KeepsPlans came plans w net' graves
+plans_net w net net' stays dials came plans graves have = record {
+  count = have.count;
+  clients = have.clients;
+  conns = have.conns;
+  dials = dials_stay plans net.dials net'.dials dials have.dials;
+  next = course_on net net' plans w.seats stays have.next;
+}
+
 -- ---- a course begins
 
 pub plans_begin : (t : ThreadNo) (config : Meaning) (seats : List History) (journals : List JournalRoom) (net : NetState) (c : Course) → ((i : ℕ) (h : History) → slice_get seats i ≡ Some h → h.seen ≡ [])

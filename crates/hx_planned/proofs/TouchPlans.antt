@@ -379,8 +379,8 @@ module _ (plans : List Plan) (ss : List SessionNow) (last : ℕ) (s a : SessionN
 
   -- ---- what is left
 
-  abbrev Left : Type 0
-  Left = (d : Course) × (net'.course ≡ Some d) × LeavesRest plans seats' d.plans
+  abbrev IsLeft : Type 0
+  IsLeft = (d : Course) × (net'.course ≡ Some d) × LeavesRest plans seats' d.plans
 
   -- a seat before the call, and how many ids were opened there in it
   seat_before : (server : ServerNo) (h : History) → slice_get seats' server.0 ≡ Some h
@@ -399,7 +399,7 @@ module _ (plans : List Plan) (ss : List SessionNow) (last : ℕ) (s a : SessionN
   leaves_are left l = let r = subst (λ (o : Option Course). LeavesPlans left o net'.course) told l in (r.0, r.1, r.2)
 
   -- nothing was opened
-  same_left : CourseStays net net' → ((i : ℕ) → opens (marks_at s.worker s.number first x i) ≡ 0) → Left
+  same_left : CourseStays net net' → ((i : ℕ) → opens (marks_at s.worker s.number first x i) ≡ 0) → IsLeft
   same_left stays no_open =
       let l = leaves_are (plans_of net.course) stays in
       let plans_are : l.0.plans ≡ c.plans = l.2 ∙ ap plans_of told in (
@@ -422,7 +422,7 @@ module _ (plans : List Plan) (ss : List SessionNow) (last : ℕ) (s a : SessionN
       (λ ne. ap opens (marks_past s.worker s.number first y i ne))
 
   -- one was, and used its server's next plan
-  one_left : (y : Touch) → x ≡ Some y → came_opens y.came ≡ 1 → LeavesPlans (without_next y.server (plans_of net.course)) net.course net'.course → Left
+  one_left : (y : Touch) → x ≡ Some y → came_opens y.came ≡ 1 → LeavesPlans (without_next y.server (plans_of net.course)) net.course net'.course → IsLeft
   one_left y is once leaves =
       let l = leaves_are (without_next y.server (plans_of net.course)) leaves in
       let plans_are : l.0.plans ≡ without_next y.server c.plans = l.2 ∙ ap (λ (o : Option Course). without_next y.server (plans_of o)) told in (
@@ -444,16 +444,16 @@ module _ (plans : List Plan) (ss : List SessionNow) (last : ℕ) (s a : SessionN
             nth_other server y.server k c.plans ne ∙ (rest server b.0 b.1 k ∙ ap (λ (i : ℕ). nth_plan server i plans) index)),
       )
 
-  left_came : (y : Touch) → x ≡ Some y → (q : Came) (after : Option What) → y.came ≡ q → DialsFor y q net net' after → Left
+  left_came : (y : Touch) → x ≡ Some y → (q : Came) (after : Option What) → y.came ≡ q → DialsFor y q net net' after → IsLeft
   left_came y is Had after e d = same_left d.1 (λ i. no_open_at y i is (ap came_opens e))
   left_came y is Opened after e d = one_left y is (ap came_opens e) d.4
   left_came y is (Took place uses) after e d = same_left d.1 (λ i. no_open_at y i is (ap came_opens e))
 
-  left_by : (o : Option Touch) → x ≡ o → Left
+  left_by : (o : Option Touch) → x ≡ o → IsLeft
   left_by None is = same_left (none is).course (λ i. ap (λ (o : Option Touch). opens (marks_at s.worker s.number first o i)) is)
   left_by (Some y) is = let k = (some y is).0 in left_came y is y.came k.goes.after refl k.goes.dials
 
-  pub rest_go : Left
+  pub rest_go : IsLeft
   rest_go = left_by x refl
 
   -- ---- dials
