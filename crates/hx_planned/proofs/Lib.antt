@@ -1,0 +1,9 @@
+pub mod PlanLists
+pub mod Opens
+pub mod DialPlans
+pub mod TouchPlans
+pub mod BeginPlans
+pub mod StepPlans
+pub mod StopPlans
+pub mod CareBack
+pub mod CarePlans
