@@ -43,7 +43,7 @@ fn most_turns(bytes: &[u8], script: &Script) -> u64
 }
 
 /// The replay of a script, which may make so many turns.
-#[tactic(auto, using(crate::proofs::PlayLemmas::over_ran, crate::proofs::PlayLemmas::tells_of))]
+#[tactic(auto, using(crate::proofs::PlayLemmas::over_ran))]
 fn replay_script(alloc: Global, script: Script, most: u64) -> Result<Replay, NoMemory>
     ensures { IfOk result (IsRunOf (meaning script) most) }
 {
