@@ -25,7 +25,7 @@ use Rattle.hx_session.specs.Steps.{StepChooses, doing}
 use Rattle.hx_session.specs.Touching.{ClosesForCauses, Touches, after_of}
 use Rattle.hx_session.specs.declared.step.Step.{Step}
 use Rattle.hx_worker.specs.Steps.{Steps, HasFewMarks, around_of, buried_by}
-use Rattle.hx_worker.specs.Workers.{WorkerNow, OwnsAll}
+use Rattle.hx_worker.specs.Workers.{WorkerNow, HasSeats, OwnsAll}
 
 -- at one seat: what it saw before begins what it has seen, which is one legal history that keeps mode and limit and has
 -- its own entries in their order; behind those of before stand the step's, in the session's name or in none; and what it
@@ -101,3 +101,9 @@ pub record CarriesHeadline (w w' : WorkerNow) (net net' : NetState) (n : Session
       net.dials net'.dials
   pub buried : GainsAll (buried_by w.config k.session k.after (around_of w net) (around_of w' k.mid) r k.step)
       net.buried net'.buried
+
+-- the law: from the clauses of a step alone, over any seats, any net and any links, each part follows
+abbrev pub StepsCarryHeadline : Type 0
+StepsCarryHeadline =
+    (w w' : WorkerNow) (net net' : NetState) (n : SessionNo) (r : Step) (k : Steps w w' net net' n r) → HasSeats w'
+    → CarriesHeadline w w' net net' n r k

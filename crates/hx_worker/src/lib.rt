@@ -2,7 +2,9 @@
 #![tactic(auto)]
 
 mod answers;
+mod law;
 mod worker;
 
 pub use answers::{NoEntry, Refused, Stopped};
+pub use law::steps_carry_headline;
 pub use worker::Worker;
