@@ -5,7 +5,6 @@ use Rattle.hx_base.specs.declared.numbers.SessionNo.{SessionNo}
 use Rattle.atomic_table.specs.Seated.{TableId}
 use Rattle.hx_base.specs.declared.numbers.ServerNo.{ServerNo}
 use Rattle.hx_base.specs.declared.numbers.ThreadNo.{ThreadNo}
-use Rattle.hx_base.specs.declared.rules.PoolRules.{PoolRules}
 use Rattle.hx_places.specs.Seats.{PlaceView, first_seat, history_of}
 use Rattle.hx_pool.specs.declared.board.BoardTerms.{BoardTerms}
 use Rattle.hx_config.specs.declared.parts.Server.{Server}
@@ -79,17 +78,6 @@ begin_all t [] (k ∷ hs) (suc i) b e = elim b [ ]
 begin_all t (x ∷ ss) hs zero b e = cc
 begin_all t (x ∷ ss) [] (suc i) b e = elim b [ ]
 begin_all t (x ∷ ss) (k ∷ hs) (suc i) b e = (b.0, begin_all t ss hs i b.1 e)
-
--- the same seat under other names of its thread, its server and their rules
-pub begins_as : (t t' : ThreadNo) (s s' : ServerNo) (r r' : PoolRules) (h : History) → t ≡ t' → s ≡ s' → r ≡ r' → BeginsFor t s r h → BeginsFor t' s' r' h
-begins_as t t' s s' r r' h et es er b = record {
-  thread_is = b.thread_is ∙ et;
-  server_is = b.server_is ∙ es;
-  rules_are = b.rules_are ∙ er;
-  inside = b.inside;
-  seen = b.seen;
-  mine = b.mine;
-}
 
 -- a seat that a board gives first
 pub first_is_new : (terms : BoardTerms) (t : ThreadNo) (id : TableId) (s : PlaceView) → s ≡ first_seat terms t id → IsNew terms.server s

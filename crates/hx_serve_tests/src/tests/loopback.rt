@@ -26,7 +26,7 @@ pub(crate) struct Outside<R> {
     pub door: SockDoor<R>,
 }
 
-pub(crate) fn outside(rt: &HostRuntime) -> io::Result<Outside<&HostRuntime>> {
+pub(crate) fn make_outside(rt: &HostRuntime) -> io::Result<Outside<&HostRuntime>> {
     let alloc = rt.alloc();
     let mut nets = Vec::new(alloc);
     let mut wakers = Vec::new(alloc);
@@ -58,7 +58,7 @@ fn connect_soon(rt: &HostRuntime, port: u16) -> io::Result<TcpStream> {
         if let Ok(stream) = TcpStream::connect(rt, address.as_str()) {
             return Ok(stream);
         }
-        thread::sleep(rt, Duration::from_millis(20))?;
+        thread::sleep(rt, Duration::from_millis(20));
     }
     TcpStream::connect(rt, address.as_str())
 }
@@ -103,7 +103,7 @@ fn a_client_is_served_over_sockets(rt: HostRuntime) -> Result<(), Fail> {
     let mut stopper = TcpStream::connect(&rt, lines.local_addr()?)?;
     let (read_end, _) = lines.accept()?;
     let mut orders = Reading::new(read_end);
-    let Outside { mut nets, mut door } = outside(&rt)?;
+    let Outside { mut nets, mut door } = make_outside(&rt)?;
     let clock = MachineClock::new(&rt);
     let mut sink = MemorySink::new(alloc, ROOM, Vec::new(alloc))?;
     let (status, heard) = join(

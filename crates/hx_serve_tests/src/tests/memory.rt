@@ -232,11 +232,11 @@ fn wrong_words_are_told(rt: HostRuntime) -> Result<(), Fail> {
         ),
         (
             "--config f --threads 17",
-            "invalid value '17' for '--threads <N>'",
+            "invalid value '17' for '--threads <threads>'",
         ),
         (
             "--config f --threads 0",
-            "invalid value '0' for '--threads <N>'",
+            "invalid value '0' for '--threads <threads>'",
         ),
     ];
     for (words, text) in cases {

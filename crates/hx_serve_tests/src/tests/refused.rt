@@ -1,6 +1,6 @@
 //! A door that can't listen.
 
-use super::loopback::{Outside, file_of, outside};
+use super::loopback::{Outside, file_of, make_outside};
 use super::{ROOM, cabinet_of, words_of};
 use hx_link::{MemorySink, MemorySource};
 use hx_proxy_parts::MachineClock;
@@ -16,7 +16,7 @@ fn a_port_that_is_taken_ends_the_run(rt: HostRuntime) -> Result<(), Fail> {
     let words = words_of(alloc, "--config f")?;
     let mut cabinet = cabinet_of(alloc, file.as_str(), 0)?;
     let mut orders = MemorySource::new(Vec::from_slice(alloc, b"stop\n")?, Vec::new(alloc));
-    let Outside { mut nets, mut door } = outside(&rt)?;
+    let Outside { mut nets, mut door } = make_outside(&rt)?;
     let mut sink = MemorySink::new(alloc, ROOM, Vec::new(alloc))?;
     let status = serve_main(
         &rt,
