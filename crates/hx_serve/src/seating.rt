@@ -41,7 +41,7 @@ fn fresh_of<'a, V: Faced>(
     seat: PlaceSeat<'a, V>,
     server: ServerNo,
 ) -> Result<Fresh<'a, V>, NoMemory>
-    requires new { IsNew server seat.entry }
+    requires new { IsNew server seat }
 {
     let thread = seat.thread();
     let rules = seat.rules();
