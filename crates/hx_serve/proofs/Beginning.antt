@@ -5,19 +5,18 @@ use Rattle.hx_base.specs.declared.numbers.SessionNo.{SessionNo}
 use Rattle.atomic_table.specs.Seated.{TableId}
 use Rattle.hx_base.specs.declared.numbers.ServerNo.{ServerNo}
 use Rattle.hx_base.specs.declared.numbers.ThreadNo.{ThreadNo}
-use Rattle.hx_base.specs.declared.rules.PoolRules.{PoolRules}
-use Rattle.hx_lockboard.specs.Seats.{SeatView, IsUnused}
+use Rattle.hx_places.specs.Seats.{PlaceView, first_seat, history_of}
 use Rattle.hx_pool.specs.declared.board.BoardTerms.{BoardTerms}
 use Rattle.hx_config.specs.declared.parts.Server.{Server}
 use Rattle.hx_config.specs.Limits.{all_servers}
 use Rattle.hx_config.specs.Meaning.{Meaning}
 use Rattle.hx_pool.specs.declared.entries.Note.{Note}
 use Rattle.hx_pool.specs.Held.{held_by}
-use Rattle.hx_pool.specs.SeatView.{About, History, IsOneHistory, StandsInOneHistory, about_of}
+use Rattle.hx_pool.specs.SeatView.{History, IsOneHistory, StandsInOneHistory}
 use Rattle.hx_connecting.specs.Journals.{JournalRoom}
 use Rattle.hx_session.specs.Fits.{SeatsServe}
 use Rattle.hx_worker.specs.Workers.{Each, HasSeats, new_worker}
-use Rattle.hx_serve.specs.Begins.{BeginsFor, BeginFor}
+use Rattle.hx_serve.specs.Begins.{BeginsFor, BeginFor, IsNew}
 
 some_is : {A : Type 0} (a b : A) → Some a ≡ Some b → a ≡ b
 some_is a b e = cc
@@ -80,34 +79,17 @@ begin_all t (x ∷ ss) hs zero b e = cc
 begin_all t (x ∷ ss) [] (suc i) b e = elim b [ ]
 begin_all t (x ∷ ss) (k ∷ hs) (suc i) b e = (b.0, begin_all t ss hs i b.1 e)
 
--- a server that is there
-pub there_below : (ss : List Server) (i : ℕ) (s : Server) → slice_get ss i ≡ Some s → i < length ss
-there_below [] i s e = cc
-there_below (x ∷ ss) zero s e = omega arith
-there_below (x ∷ ss) (suc i) s e = omega (arith, there_below ss i s e)
+-- a seat that a board gives first
+pub first_is_new : (terms : BoardTerms) (t : ThreadNo) (id : TableId) (s : PlaceView) → s ≡ first_seat terms t id → IsNew terms.server s
+first_is_new terms t id s e =
+    subst (λ (x : PlaceView). IsNew terms.server x) (sym e) (record { server_is = refl; seen = refl; mine = refl; idle = refl })
 
--- the same seat under other names of its thread, its server and their rules
-pub begins_as : (t t' : ThreadNo) (s s' : ServerNo) (r r' : PoolRules) (h : History) → t ≡ t' → s ≡ s' → r ≡ r' → BeginsFor t s r h → BeginsFor t' s' r' h
-begins_as t t' s s' r r' h et es er b = record {
-  thread_is = b.thread_is ∙ et;
-  server_is = b.server_is ∙ es;
-  rules_are = b.rules_are ∙ er;
-  inside = b.inside;
-  seen = b.seen;
-  mine = b.mine;
-}
-
--- a new seat of a board
-pub begins_at : (terms : BoardTerms) (k : ℕ) (id : TableId) (v : SeatView) → v.history.about ≡ about_of terms (record { 0 = k }) id → IsUnused v.history
-    → k < terms.threads → terms.threads ≤ 16 → BeginsFor (record { 0 = k }) terms.server terms.rules v.history
-begins_at terms k id v about unused low few = record {
-  thread_is = ap (λ (a : About). a.thread) about;
-  server_is = ap (λ (a : About). a.server) about;
-  rules_are = ap (λ (a : About). a.rules) about;
-  inside = subst (λ (a : About). (a.thread.0 < a.threads) × (a.threads ≤ 16)) (sym about) (low, few);
-  seen = unused.seen;
-  mine = unused.mine;
-}
+-- a whole seat made of a new one
+pub begins_new : (server : ServerNo) (s : PlaceView) (h : History) → IsNew server s → h ≡ history_of s None → s.view.thread.0 < s.view.terms.threads
+    → s.view.terms.threads ≤ 16 → BeginsFor s.view.thread server s.view.terms.rules h
+begins_new server s h new is low few =
+    subst (λ (x : History). BeginsFor s.view.thread server s.view.terms.rules x) (sym is)
+    (record { thread_is = refl; server_is = new.server_is; rules_are = refl; inside = (low, few); seen = new.seen; mine = new.mine })
 
 -- the last of a list, and those before it
 pub last_of : {A : Type 0} (xs : List A) (x : A) → slice_get (xs ++ x ∷ []) (length xs) ≡ Some x
@@ -125,10 +107,3 @@ popped xs ys x e = subst (λ l. slice_get l (length ys) ≡ Some x) (sym e) (las
 
 pub left_by_pop : {A : Type 0} (xs ys : List A) (x : A) (k : ℕ) (y : A) → xs ≡ ys ++ x ∷ [] → slice_get ys k ≡ Some y → slice_get xs k ≡ Some y
 left_by_pop xs ys x k y e h = subst (λ l. slice_get l k ≡ Some y) (sym e) (before_last ys x k y h)
-
--- there are as many seats as servers
-pub as_many : (t : ThreadNo) (hs : List History) (ss : List Server) → SeatsServe t hs ss → length hs ≡ length ss
-as_many t [] [] s = refl
-as_many t [] (x ∷ ss) s = elim s [ ]
-as_many t (h ∷ hs) [] s = elim s [ ]
-as_many t (h ∷ hs) (x ∷ ss) s = ap (λ n. suc n) (as_many t hs ss s.3)

@@ -6,6 +6,15 @@ use Rattle.hx_base.specs.declared.rules.PoolRules.{PoolRules}
 use Rattle.hx_config.specs.Meaning.{Meaning}
 use Rattle.hx_config.specs.declared.parts.Server.{Server}
 use Rattle.hx_pool.specs.SeatView.{History}
+use Rattle.hx_places.specs.Seats.{PlaceView}
+use Rattle.hx_places.specs.declared.view.Hand.TheVariants.{Idle}
+
+-- a thread's seat at that server's board of words and slots, which has seen and made nothing, and claims no place
+pub record IsNew (server : ServerNo) (s : PlaceView) : Type 0 where
+  pub server_is : s.view.terms.server ≡ server
+  pub seen : s.view.seen ≡ []
+  pub mine : s.view.mine ≡ []
+  pub idle : s.view.hand ≡ Idle
 
 -- a seat of that thread at that server's board under these rules, at which nothing has happened
 pub record BeginsFor (thread : ThreadNo) (server : ServerNo) (rules : PoolRules) (h : History) : Type 0 where

@@ -1,4 +1,2 @@
 pub mod Begins
-pub mod Hands
-pub mod Orders
 pub mod Runs

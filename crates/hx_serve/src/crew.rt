@@ -2,11 +2,7 @@
 ghost use Rattle.std.specs.Prelude.{IfOk};
 ghost use Rattle.hx_serve.specs.Runs.{IsServed, IsDone};
 
-use crate::doorman::Lanes;
-use crate::endings::{OrdersEnd, Served};
-use crate::guest::Carried;
-use crate::hand::Hand;
-use crate::lanes::Ends;
+use crate::endings::Served;
 use crate::report::totals_text;
 use crate::seating::Seats;
 use crate::threads::run_threads;
@@ -16,6 +12,7 @@ use hx_conn::Rested;
 use hx_doors::Door;
 use hx_handoff::Taker;
 use hx_link::{Clock, Net, Sink, Source};
+use hx_loop::{Carried, Ends, Hand, Lanes, OrdersEnd};
 use hx_pool::Seat;
 use hx_resting::NO_TOTALS;
 use hx_startup::Ending;

@@ -1,18 +1,6 @@
-//! How orders and serving end.
+//! How serving ends.
 
 use hx_startup::Ending;
-
-/// How the orders end.
-#[derive(Clone, Copy, Debug, PartialEq, Eq)]
-pub(crate) enum OrdersEnd {
-    /// A line `stop` came.
-    Stop,
-    /// The source has no more.
-    Over,
-    SourceFault,
-    SinkFault,
-    NoMemory,
-}
 
 /// How serving ended.
 #[derive(Drop)]

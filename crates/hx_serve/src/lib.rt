@@ -2,13 +2,8 @@
 #![tactic(auto)]
 
 mod crew;
-mod doorman;
 mod endings;
 mod fresh;
-mod guest;
-mod hand;
-mod lanes;
-mod orders;
 mod report;
 mod seating;
 mod serve;

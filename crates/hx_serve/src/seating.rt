@@ -1,63 +1,75 @@
 //! The boards of the servers, and a seat at each for every worker.
 ghost use Rattle.std.specs.Prelude.{◌≡◌, ◌≤◌, true, IfOk, map};
 ghost use Rattle.hx_config.specs.Limits.{all_servers, HasThreads};
-ghost use Rattle.hx_serve.specs.Begins.{BeginFor, BeginsFor};
+ghost use Rattle.hx_serve.specs.Begins.{BeginFor, BeginsFor, IsNew};
 
 use crate::fresh::Fresh;
 use hx_base::{Faced, Millis, NoMemory, ServerNo, ThreadNo};
 use hx_config::{Config, Server};
-use hx_lockboard::{LockBoard, LockSeat, lock_board};
+use hx_places::{Board, PlaceSeat};
 use hx_pool::HasHistory;
+use hx_purge::SlotSeat;
 use std::alloc::Global;
 use std::marker::Model;
-use std::sync::Wait;
 
 /// When rounds are counted from.
 const START: Millis = Millis(0);
 
 /// The seats of one worker on their way to it, by server.
-pub(crate) type Row<'a, R, V> = Vec<Fresh<'a, R, V>>;
+pub(crate) type Row<'a, V> = Vec<Fresh<'a, V>>;
 
 /// A board for each server, in order.
 pub(crate) fn boards_of<V: Faced>(
     alloc: Global,
     config: &Config,
     threads: u8,
-) -> Result<Vec<LockBoard<V>>, NoMemory>
+) -> Result<Vec<Board<V>>, NoMemory>
     requires threads { HasThreads threads }
 {
     let mut boards = Vec::new(alloc);
     for back in config.backs.as_slice() {
         for server in back.servers.as_slice() {
-            boards.push(lock_board(alloc, server.no, server.rules, threads, START)?)?;
+            boards.push(Board::new(alloc, server.no, server.rules, threads, START)?)?;
         }
     }
     Ok(boards)
 }
 
-/// Hands the seats of one board to the workers.
-fn hand_out<'a, R: Wait, V: Faced>(
-    rt: &'a R,
+/// The whole seat of a thread, of its new seat of a board to that server.
+fn fresh_of<'a, V: Faced>(
     alloc: Global,
-    board: &'a mut LockBoard<V>,
-    rows: &mut [Row<'a, R, V>],
+    seat: PlaceSeat<'a, V>,
+    server: ServerNo,
+) -> Result<Fresh<'a, V>, NoMemory>
+    requires new { IsNew server seat }
+{
+    let thread = seat.thread();
+    let rules = seat.rules();
+    let seat = SlotSeat::new(alloc, seat)?;
+    Ok(Fresh {
+        seat,
+        thread,
+        server,
+        rules,
+    })
+}
+
+/// Hands the seats of one board to the workers.
+fn hand_out<'a, V: Faced>(
+    alloc: Global,
+    board: &'a mut Board<V>,
+    rows: &mut [Row<'a, V>],
 ) -> Result<(), NoMemory> {
     // A board gives its seats once, and this one is new.
     let given = board.given;
     if given != 0 {
         return Err(NoMemory);
     }
-    let terms = board.terms;
-    let mut seats = board.seats(rt, alloc)?;
+    let server = board.terms.server;
+    let mut seats = board.seats(alloc)?;
     while let Some(seat) = seats.pop() {
-        let thread = seats.len();
-        let fresh = Fresh {
-            seat,
-            thread: ThreadNo(thread as u8),
-            server: terms.server,
-            rules: terms.rules,
-        };
-        if let Some(row) = rows.get_mut(thread) {
+        let fresh = fresh_of(alloc, seat, server)?;
+        if let Some(row) = rows.get_mut(fresh.thread.0 as usize) {
             row.push(fresh)?;
         }
     }
@@ -65,35 +77,34 @@ fn hand_out<'a, R: Wait, V: Faced>(
 }
 
 /// The rows of the workers' seats.
-fn rows_of<'a, R: Wait, V: Faced>(
-    rt: &'a R,
+fn rows_of<'a, V: Faced>(
     alloc: Global,
-    boards: &'a mut [LockBoard<V>],
+    boards: &'a mut [Board<V>],
     threads: u8,
-) -> Result<Vec<Row<'a, R, V>>, NoMemory> {
+) -> Result<Vec<Row<'a, V>>, NoMemory> {
     let mut rows = Vec::new(alloc);
     for _ in 0..threads {
         rows.push(Vec::new(alloc))?;
     }
     for board in boards.iter_mut() {
-        hand_out(rt, alloc, board, rows.as_mut_slice())?;
+        hand_out(alloc, board, rows.as_mut_slice())?;
     }
     Ok(rows)
 }
 
 /// Whether a seat is of that thread and that server.
-fn is_for<R: Wait, V: Faced>(fresh: &Fresh<'_, R, V>, thread: ThreadNo, server: &Server) -> bool
+fn is_for<V: Faced>(fresh: &Fresh<'_, V>, thread: ThreadNo, server: &Server) -> bool
     ensures fits { result ≡ true → BeginsFor thread server.now.no server.now.rules fresh.now.seat.history }
 {
     fresh.thread == thread && fresh.server == server.no && fresh.rules == server.rules
 }
 
 /// The next seat of a row, which is that of the thread at the server.
-fn next_seat<'a, R: Wait, V: Faced>(
-    row: &mut Row<'a, R, V>,
+fn next_seat<'a, V: Faced>(
+    row: &mut Row<'a, V>,
     thread: ThreadNo,
     server: &Server,
-) -> Result<LockSeat<'a, R, V>, NoMemory>
+) -> Result<SlotSeat<'a, V>, NoMemory>
     ensures { IfOk result (λ s. BeginsFor thread server.now.no server.now.rules s.history) }
 {
     if row.is_empty() {
@@ -110,12 +121,12 @@ fn next_seat<'a, R: Wait, V: Faced>(
 
 /// The seats of a worker: one of its thread for each server, in order. Those of its row are.
 #[tactic(auto, using(crate::proofs::Beginning::begin_more, crate::proofs::Beginning::begin_all))]
-pub(crate) fn seats_of<'a, R: Wait, V: Faced>(
+pub(crate) fn seats_of<'a, V: Faced>(
     alloc: Global,
     config: &Config,
     thread: ThreadNo,
-    row: Row<'a, R, V>,
-) -> Result<Vec<LockSeat<'a, R, V>>, NoMemory>
+    row: Row<'a, V>,
+) -> Result<Vec<SlotSeat<'a, V>>, NoMemory>
     ensures begin { IfOk result (λ seats. BeginFor thread (all_servers config.now.backs) (map (λ s. s.history) seats.items)) }
 {
     let mut row = row;
@@ -181,15 +192,14 @@ fn add_seats<'a, S: HasHistory + Drop>(
 }
 
 /// Adds the seats of each worker, in order of the threads.
-pub(crate) fn seats_by_worker<'a, R: Wait, V: Faced>(
-    rt: &'a R,
+pub(crate) fn seats_by_worker<'a, V: Faced>(
     alloc: Global,
     config: &'a Config,
-    boards: &'a mut [LockBoard<V>],
+    boards: &'a mut [Board<V>],
     threads: u8,
-    all: &mut Vec<Seats<'a, LockSeat<'a, R, V>>>,
+    all: &mut Vec<Seats<'a, SlotSeat<'a, V>>>,
 ) -> Result<(), NoMemory> {
-    let mut rows = rows_of(rt, alloc, boards, threads)?;
+    let mut rows = rows_of(alloc, boards, threads)?;
     for thread in 0..threads {
         if rows.is_empty() {
             return Err(NoMemory);

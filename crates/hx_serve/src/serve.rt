@@ -6,13 +6,13 @@ ghost use Rattle.hx_serve.specs.Runs.{IsServed, Closes, IsRefused, IsToldOf, Was
 
 use crate::crew::serve_with;
 use crate::endings::Served;
-use crate::lanes::{Ends, ends_of, lanes_of};
 use crate::seating::{boards_of, seats_by_worker};
 use hx_base::NoMemory;
 use hx_conn::Rested;
 use hx_doors::{Cabinet, Door};
 use hx_link::{Clock, Net, Sink, Source};
-use hx_lockboard::LockBoard;
+use hx_loop::{Ends, ends_of, lanes_of};
+use hx_places::Board;
 use hx_startup::{Ending, Plan, Start, end, start_up};
 use std::alloc::Global;
 use std::sync::Wait;
@@ -31,7 +31,7 @@ fn serve_at<
     rt: &'a R,
     alloc: Global,
     plan: &'a Plan,
-    boards: &'a mut [LockBoard<Rested<N::L>>],
+    boards: &'a mut [Board<Rested<N::L>>],
     ends: Ends<'a, N::L>,
     nets: &'a mut [N],
     orders: &mut S,
@@ -45,7 +45,7 @@ where
 {
     let config = &plan.config;
     let mut rows = Vec::new(alloc);
-    let made = seats_by_worker(rt, alloc, config, boards, plan.threads, &mut rows);
+    let made = seats_by_worker(alloc, config, boards, plan.threads, &mut rows);
     serve_with(
         rt, alloc, config, made, rows, ends, nets, orders, door, clock, sink,
     )
@@ -139,6 +139,8 @@ where
     ensures listening { result ≡ 5 → Rose (D.state door.old).faults (D.state door.new).faults }
     ensures check { result ≡ 0 → AsksCheck (words_of words.now)
         → IsToldOf (words_of words.now) (F.state cabinet.old) (F.state cabinet.new) (K.state sink.old) (K.state sink.new) }
+    ensures stopped { result ≡ 0 → (AsksCheck (words_of words.now) → ⊥)
+        → WasServed (words_of words.now) (F.state cabinet.old) (F.state cabinet.new) }
     ensures known { (result ≡ 0) ⊎ (result ≡ 1) ⊎ (result ≡ 2) ⊎ (result ≡ 3) ⊎ (result ≡ 4) ⊎ (result ≡ 5) ⊎ (result ≡ 9) }
 {
     match start_up(alloc, words, cabinet, door) {

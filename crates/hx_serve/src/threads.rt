@@ -1,15 +1,11 @@
 //! The threads of a run, under fork calls that can't be refused.
 
-use crate::doorman::Lanes;
-use crate::endings::OrdersEnd;
-use crate::guest::Carried;
-use crate::hand::Hand;
-use crate::orders::run_orders;
 use hx_config::Config;
 use hx_conn::Rested;
 use hx_doors::Door;
 use hx_handoff::Giver;
 use hx_link::{Clock, Net, Sink, Source};
+use hx_loop::{Carried, Hand, Lanes, OrdersEnd, run_orders};
 use hx_pool::Seat;
 use std::alloc::Global;
 use std::sync::Wait;

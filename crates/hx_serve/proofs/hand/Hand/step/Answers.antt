@@ -1,5 +1,0 @@
-use Rattle.hx_serve.proofs.Going.{steps_there}
-use Rattle.hx_serve.proofs.hand.Hand.step.Goals as goal
-
-pub returns : goal.returns
-returns g c = record { stays = λ no. steps_there _ _ _ _ _ _ c.step.ensures.steps no }

@@ -1,5 +1,0 @@
-use Rattle.std.proofs.Common.{◌≡◌}
-use Rattle.hx_serve.proofs.orders.take.Given as goal
-
-abbrev pub invariant-loop-byte : goal.invariant-loop-byte
-invariant-loop-byte g l = (g.K.Sink.state l.sink).faults ≡ (g.K.Sink.state l.initial.sink).faults
