@@ -8,6 +8,7 @@ pub mod Taken
 pub mod OwnTakes
 pub mod Sweeps
 pub mod Rounds
+pub mod Orders
 pub mod Overs
 pub mod Parks
 pub mod Boards

@@ -4,3 +4,4 @@ pub mod LockDesks
 pub mod Seats
 pub mod Boards
 pub mod Telling
+pub mod Order

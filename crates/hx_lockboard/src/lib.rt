@@ -4,6 +4,7 @@
 
 mod board;
 mod desk;
+mod other_rows;
 mod rule;
 mod seat;
 mod telling;

@@ -2,6 +2,7 @@
 ghost use Rattle.std.specs.Prelude.{◌≡◌, ◌<◌, ◌≤◌};
 
 use crate::desk::LockDesk;
+use crate::other_rows::{Request, start_of};
 use crate::rule::OneValue;
 use atomic_table::Shared;
 use hx_base::{
@@ -211,20 +212,21 @@ impl<'a, R: Wait, V: Faced> Seat<V> for LockSeat<'a, R, V> {
             self.desk.give(rows);
             return Err(NoneOver::BelowLow(count));
         }
+        let request = Request {
+            t,
+            threads,
+            mode,
+            first,
+        };
+        let from = start_of(rows.resting.as_slice(), request);
         let taker = Taker { t, n, first };
         let wanted = Wanted {
             all: false,
             mode,
             first,
         };
-        let taken = sweep(
-            &mut self.desk,
-            &mut rows.resting,
-            taker,
-            threads,
-            wanted,
-            ROW,
-        );
+        let resting = &mut rows.resting;
+        let taken = sweep(&mut self.desk, resting, taker, threads, wanted, from);
         self.desk.give(rows);
         let Some((_passed, rest)) = taken else {
             return Err(NoneOver::NoneSeen);

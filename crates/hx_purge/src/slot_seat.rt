@@ -82,6 +82,7 @@ impl<'a, V: Faced> SlotSeat<'a, V> {
         requires unused { seat.view.mine ≡ [] }
         requires idle { seat.view.hand ≡ Idle }
         ensures history { IfOk result (λ s. s.history ≡ history_of seat.entry None) }
+        ensures last { IfOk result (λ s. s.last ≡ []) }
     {
         seat.thread();
         let row = Row::new(alloc)?;
