@@ -1,3 +1,4 @@
 pub mod EachLemmas
 pub mod TotalsLemmas
 pub mod MarkLemmas
+pub mod FoundLemmas

@@ -6,3 +6,6 @@ pub mod Ranges
 pub mod Tiling
 pub mod Ways
 pub mod Samples
+pub mod Lasts
+pub mod Here
+pub mod Found
