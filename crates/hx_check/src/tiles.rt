@@ -4,8 +4,7 @@ ghost use Rattle.hx_check_parts.specs.Each.{HoldsOfEach};
 ghost use Rattle.hx_check.specs.Conns.{IsFirst};
 ghost use Rattle.hx_check.specs.Rules.{ConnIn};
 
-use hx_check_parts::{sent_holds, took_holds};
-use hx_script::{ConnBytes, Told};
+use hx_check_parts::{Conns, Records, sent_holds, took_holds};
 
 /// Where a connection breaks the rule.
 #[derive(Clone, Copy)]
@@ -17,11 +16,12 @@ pub(crate) enum ConnBreak {
 }
 
 /// The first connection that breaks the rule.
-pub(crate) fn first_conn(records: &[Told], conns: &[ConnBytes]) -> Option<ConnBreak>
+pub(crate) fn first_conn(records: &Records<'_>, conns: &Conns<'_>) -> Option<ConnBreak>
     ensures { MatchOption result (HoldsOfEach (ConnIn records.now) conns.now)
         (IsFirst records.now conns.now) }
 {
-    for (k, conn) in conns.iter().enumerate() {
+    let list = conns.as_slice();
+    for (k, conn) in list.iter().enumerate() {
         if !sent_holds(records, conn) {
             return Some(ConnBreak::Sent(k));
         }

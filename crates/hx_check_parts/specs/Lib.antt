@@ -9,3 +9,6 @@ pub mod Samples
 pub mod Lasts
 pub mod Here
 pub mod Found
+pub mod Sessions
+pub mod Numbers
+pub mod Kept

@@ -1,6 +1,7 @@
 //! The bytes of links, by the session or the connection.
-ghost use Rattle.std.specs.Prelude.{◌≡◌, IfOk};
-ghost use Rattle.std.specs.Option.{option_copied};
+ghost use Rattle.std.specs.Prelude.{◌≡◌, ℕ, ◌==◌, ◌&&◌, cond, None, Some, IfOk, OnOk};
+ghost use Rattle.std.specs.Option.{option_copied, option_or};
+ghost use Rattle.hx_check_table.specs.Tables.{value_at};
 ghost use Rattle.hx_check_parts.specs.Links.{client_of, client_took, client_gave, conn_of, conn_sent, conn_took};
 ghost use Rattle.hx_check_parts.specs.Found.{FindsClients, FindsConns};
 
@@ -50,6 +51,17 @@ impl<'a> Model for Conns<'a> {
     ghost invariant = { λ x. IfSome x.table (FindsConns x.list.now) };
 }
 
+/// Keeps a place at two numbers, where none is there yet.
+fn note_place(table: &mut Table<usize>, a: u64, b: u64, place: usize) -> Result<(), NoMemory>
+    ensures { OnOk result ((x y : ℕ) → value_at table.new x y 0
+        ≡ option_or (value_at table.old x y 0) (cond (x == a && y == b) (Some place) None)) }
+{
+    match table.at(a, b, 0) {
+        None => table.put(a, b, 0, place),
+        Some(_) => Ok(()),
+    }
+}
+
 /// The first client of each session.
 fn clients_table(alloc: Global, list: &[ClientBytes]) -> Result<Table<usize>, NoMemory>
     ensures { IfOk result (FindsClients list.now) }
@@ -57,10 +69,12 @@ fn clients_table(alloc: Global, list: &[ClientBytes]) -> Result<Table<usize>, No
     let mut table: Table<usize> = Table::new(alloc);
     for k in 0..list.len() {
         let client = &list[k];
-        let (a, b) = (u64::from(client.worker.0), u64::from(client.session.0));
-        if table.at(a, b, 0).is_none() {
-            table.put(a, b, 0, k)?;
-        }
+        note_place(
+            &mut table,
+            client.worker.0 as u64,
+            client.session.0 as u64,
+            k,
+        )?;
     }
     Ok(table)
 }
@@ -72,10 +86,7 @@ fn conns_table(alloc: Global, list: &[ConnBytes]) -> Result<Table<usize>, NoMemo
     let mut table: Table<usize> = Table::new(alloc);
     for k in 0..list.len() {
         let conn = &list[k];
-        let (a, b) = (u64::from(conn.server.0), conn.id.0);
-        if table.at(a, b, 0).is_none() {
-            table.put(a, b, 0, k)?;
-        }
+        note_place(&mut table, conn.server.0 as u64, conn.id.0, k)?;
     }
     Ok(table)
 }
