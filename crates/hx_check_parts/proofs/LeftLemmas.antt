@@ -3,7 +3,7 @@ use Rattle.std.proofs.Common.{◌≡◌, ℕ, ◌+◌, ◌<◌, ◌≤◌, Bool,
 use Rattle.std.specs.Prelude.{◌≢◌, ◌↔◌, MatchOption, if◌then◌else◌, nat_lt, slice_get}
 use Rattle.std.proofs.lemmas.List.{append-nil, drop_more, take_more, take-append-drop}
 use Rattle.std.proofs.lemmas.Option.{slice_get_within, slice_get-get_or}
-use Rattle.std.proofs.Math.Option.{some-injective}
+use Rattle.std.specs.Option.{unwrap_or}
 use Rattle.std.proofs.lemmas.Grind.{flat_map-append}
 use Rattle.hx_base.specs.declared.numbers.Span.{Span}
 use Rattle.hx_base.specs.declared.numbers.ThreadNo.{ThreadNo}
@@ -46,7 +46,7 @@ is_self : (t : ThreadNo) (n : SessionNo) → is_of t n t n ≡ true
 is_self t n = grind arith
 
 below : (a b : ℕ) → nat_lt a b ≡ true → a < b
-below a b yes = grind (arith, yes)
+below a b less = grind (arith, less)
 
 not_below : (a b : ℕ) → nat_lt a b ≡ false → b ≤ a
 not_below a b off = grind (arith, off)
@@ -56,7 +56,7 @@ module _ (x : Left) (records : List Told) (k : ℕ) (there : slice_get records k
   within = slice_get_within records k (told.Left x) there
 
   here : get_or records k (told.Left x) ≡ told.Left x
-  here = some-injective (get_or records k (told.Left x)) (told.Left x) (sym (slice_get-get_or records k (told.Left x) within) ∙ there)
+  here = ap (λ (o : Option Told). unwrap_or o (told.Left x)) (sym (slice_get-get_or records k (told.Left x) within) ∙ there)
 
   ask_here : range_of Ask x.worker x.session (told.Left x) ≡ x.ask ∷ []
   ask_here = if_yes (is_of x.worker x.session x.worker x.session) x.ask (is_self x.worker x.session)

@@ -96,7 +96,7 @@ line_is t n (told.Served s) = sym (and_zero (is_of t n s.worker s.session))
 line_is t n (told.Left l) = sym (and_zero (is_of t n l.worker l.session))
 
 pub numbers_are : (x y a b : ℕ) → ((x == a && y == b) && 0 == 0) ≡ true → (x ≡ a) × (y ≡ b)
-numbers_are x y a b yes = (grind (arith, yes), grind (arith, yes))
+numbers_are x y a b same_key = (grind (arith, same_key), grind (arith, same_key))
 
 -- a session's entry with one record more
 pub noted : (t : ThreadNo) (n : SessionNo) (rs : List Told) (r : Told) (before next : Covered) (o new : Option Covered) (line : Bool)

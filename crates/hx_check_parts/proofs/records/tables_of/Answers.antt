@@ -9,14 +9,11 @@ pub loop-k-preserved : goal.loop-k-preserved
 loop-k-preserved c =
     let list = c.args.list.now in
     let k = c.loop-k.k in
-    let x = c.index-list-k.result in
     let before = take k list in
-    let more : before ++ x ∷ [] ≡ take (k + 1) list =
-        ap (λ (r : Told). before ++ r ∷ []) c.index-list-k.is ∙ sym (take_more list k x c.loop-k-test.true) in
     record {
-      sessions = subst (λ (rs : List Told). KeepsSessions rs c.note_session.new.table) more
+      sessions = subst (λ (rs : List Told). KeepsSessions rs c.note_session.new.table) (sym (take_more list k _ c.loop-k-test.true))
           (c.in_ok-note_session.ensures before (length-take-le k list (omega (arith, c.loop-k-test.true))) c.loop-k.invariant.sessions);
-      exchanges = subst (λ (rs : List Told). KeepsExchanges rs c.note.new.self) more
+      exchanges = subst (λ (rs : List Told). KeepsExchanges rs c.note.new.self) (sym (take_more list k _ c.loop-k-test.true))
           (c.in_ok-note.ensures.keeps before c.loop-k.invariant.exchanges);
       few = c.in_ok-note.ensures.few (k + 1) c.loop-k.invariant.few;
     }
