@@ -62,7 +62,7 @@ pub(crate) fn conn_break(t: &Transcript, by: &Parts<'_>) -> Option<ConnBreak>
     ensures { MatchOption result (HoldsOfEach (ConnAt t.now) t.now.conns)
         (IsFirst t.now.records t.now.conns) }
 {
-    first_conn(&by.records, &by.conns)
+    first_conn(&by.records, by.conns.as_slice())
 }
 
 pub(crate) fn sum_break(t: &Transcript) -> Option<usize>

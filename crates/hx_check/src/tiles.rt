@@ -4,7 +4,8 @@ ghost use Rattle.hx_check_parts.specs.Each.{HoldsOfEach};
 ghost use Rattle.hx_check.specs.Conns.{IsFirst};
 ghost use Rattle.hx_check.specs.Rules.{ConnIn};
 
-use hx_check_parts::{Conns, Records, sent_holds, took_holds};
+use hx_check_parts::{Records, sent_holds, took_holds};
+use hx_script::ConnBytes;
 
 /// Where a connection breaks the rule.
 #[derive(Clone, Copy)]
@@ -16,12 +17,11 @@ pub(crate) enum ConnBreak {
 }
 
 /// The first connection that breaks the rule.
-pub(crate) fn first_conn(records: &Records<'_>, conns: &Conns<'_>) -> Option<ConnBreak>
+pub(crate) fn first_conn(records: &Records<'_>, conns: &[ConnBytes]) -> Option<ConnBreak>
     ensures { MatchOption result (HoldsOfEach (ConnIn records.now) conns.now)
         (IsFirst records.now conns.now) }
 {
-    let list = conns.as_slice();
-    for (k, conn) in list.iter().enumerate() {
+    for (k, conn) in conns.iter().enumerate() {
         if !sent_holds(records, conn) {
             return Some(ConnBreak::Sent(k));
         }
