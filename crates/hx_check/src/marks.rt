@@ -51,6 +51,14 @@ pub(crate) fn first_mark(rule: MarkRule, servers: &[ServerPart]) -> Option<u32>
     None
 }
 
+/// The first mark of the server that breaks the first rule, by tables.
+fn illegal_in(alloc: Global, part: &ServerPart) -> Result<Option<usize>, NoMemory>
+    ensures { IfOk result (λ first. MatchOption first (HoldsOfEach (LegalMark part.now) part.now.marks)
+        (λ k. FailsFirst (LegalMark part.now) part.now.marks k)) }
+{
+    first_illegal_by_tables(alloc, part.marks.as_slice())
+}
+
 /// The line of the first mark that breaks the first rule, by tables. The one error is want of memory.
 pub(crate) fn first_illegal_mark(
     alloc: Global,
@@ -61,7 +69,7 @@ pub(crate) fn first_illegal_mark(
 {
     let mut line: u32 = 3;
     for (k, part) in servers.iter().enumerate() {
-        match first_illegal_by_tables(alloc, part.marks.as_slice())? {
+        match illegal_in(alloc, part)? {
             None => line = behind_server(line, part),
             Some(mark) => return Ok(Some(behind(line, mark))),
         }

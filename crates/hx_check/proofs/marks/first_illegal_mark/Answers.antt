@@ -16,7 +16,7 @@ returns-in-Some c =
     let x = c.index-servers-k.result in
     let fails : FailsFirst (LegalMark x) x.marks c.in-Some.mark =
         subst (λ (o : Option ℕ). MatchOption o (HoldsOfEach (LegalMark x) x.marks) (λ j. FailsFirst (LegalMark x) x.marks j)) c.in-Some.is
-        c.in_ok-first_illegal_by_tables.ensures in (
+        c.in_ok-illegal_in.ensures in (
       server_lines (take k servers) + 3 + c.in-Some.mark,
       record {
         server = k;
@@ -40,7 +40,7 @@ loop-k-preserved c =
     let x = c.index-servers-k.result in
     let fine : HoldsOfEach (LegalMark x) x.marks =
         subst (λ (o : Option ℕ). MatchOption o (HoldsOfEach (LegalMark x) x.marks) (λ j. FailsFirst (LegalMark x) x.marks j)) c.in-None.is
-        c.in_ok-first_illegal_by_tables.ensures in
+        c.in_ok-illegal_in.ensures in
     record {
       below = more_at (λ (i : ℕ) (p : ServerPart). HoldsOfEach (LegalMark p) p.marks) servers k x c.loop-k-test.true c.index-servers-k.is
           c.loop-k.invariant.below fine;
