@@ -66,7 +66,7 @@ module _ (x : Left) (records : List Told) (k : ℕ) (there : slice_get records k
       let rest = drop (k + 1) records in
       let front = drop_more records k (told.Left x) within ∙ ap (λ (r : Told). r ∷ rest) here in
       let none = none_before (range_of Ask x.worker x.session (told.Left x)) (ranges_of Ask x.worker x.session rest)
-          (sym (ap (ranges_of Ask x.worker x.session) front) ∙ e) in
+      (sym (ap (ranges_of Ask x.worker x.session) front) ∙ e) in
       not_none [] x.ask (sym ask_here ∙ none)
 
   same_last : (j : ℕ) (b c : Bool) → nat_lt j k ≡ b → nat_lt k j ≡ c → IsLastAt x.worker x.session records j
@@ -89,8 +89,8 @@ module _ (x : Left) (records : List Told) (k : ℕ) (there : slice_get records k
       let front = ranges_of side x.worker x.session (take (k + 1) records) in
       sym
       (ap (ranges_of side x.worker x.session) (sym (take-append-drop (k + 1) records))
-        ∙ flat_map-append (range_of side x.worker x.session) (take (k + 1) records) (drop (k + 1) records)
-        ∙ ap (λ (y : List Span). front ++ y) quiet ∙ append-nil front)
+      ∙ flat_map-append (range_of side x.worker x.session) (take (k + 1) records) (drop (k + 1) records)
+      ∙ ap (λ (y : List Span). front ++ y) quiet ∙ append-nil front)
 
   gave_whole : ranges_of Ask x.worker x.session (drop (k + 1) records) ≡ []
       → ranges_of Gave x.worker x.session (take k records) ≡ ranges_of Gave x.worker x.session records
@@ -108,8 +108,8 @@ module _ (x : Left) (records : List Told) (k : ℕ) (there : slice_get records k
     pub holds : EndsAt c k took gave → LeftHolds clients records k x
     holds (last, asks, gaves) =
         let at : IsLastAt x.worker x.session records k =
-            subst (λ (o : Option ℕ). MatchOption o (ranges_of Ask x.worker x.session records ≡ []) (IsLastAt x.worker x.session records)) last
-            covered.last in
+        subst (λ (o : Option ℕ). MatchOption o (ranges_of Ask x.worker x.session records ≡ []) (IsLastAt x.worker x.session records)) last
+        covered.last in
         record {
           last = at.behind;
           asks = (contiguous (ranges_of Ask x.worker x.session (take (k + 1) records)) 0 (length (client_took clients x.worker x.session))).1
@@ -122,9 +122,9 @@ module _ (x : Left) (records : List Told) (k : ℕ) (there : slice_get records k
     ends left = (
       last_is c.last covered.last left.last,
       covered.asks ∙ ap reached (sym (whole Ask left.last))
-      ∙ (contiguous (ranges_of Ask x.worker x.session (take (k + 1) records)) 0 (length (client_took clients x.worker x.session))).0 left.asks
-      ∙ ap Some (sym took_is),
+          ∙ (contiguous (ranges_of Ask x.worker x.session (take (k + 1) records)) 0 (length (client_took clients x.worker x.session))).0 left.asks
+          ∙ ap Some (sym took_is),
       covered.gaves ∙ ap reached (sym (gave_whole left.last))
-      ∙ (contiguous (ranges_of Gave x.worker x.session (take k records)) 0 (length (client_gave clients x.worker x.session))).0 left.gaves
-      ∙ ap Some (sym gave_is),
+          ∙ (contiguous (ranges_of Gave x.worker x.session (take k records)) 0 (length (client_gave clients x.worker x.session))).0 left.gaves
+          ∙ ap Some (sym gave_is),
     )

@@ -49,7 +49,11 @@ fn note_first(firsts: &mut Table<Carried>, carried: Carried) -> Result<(), NoMem
     ensures { OnOk result ((server : ServerNo) (id : ConnId) (k : ℕ) → value_at firsts.new server.0 id.0 k
         ≡ option_or (value_at firsts.old server.0 id.0 k) (numbered k (carried_if server id carried))) }
 {
-    let (a, b, c) = (u64::from(carried.server.0), carried.id.0, u64::from(carried.nth));
+    let (a, b, c) = (
+        u64::from(carried.server.0),
+        carried.id.0,
+        u64::from(carried.nth),
+    );
     match firsts.at(a, b, c) {
         None => firsts.put(a, b, c, carried),
         Some(_) => Ok(()),

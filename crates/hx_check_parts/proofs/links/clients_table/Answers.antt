@@ -16,7 +16,7 @@ loop-k-preserved c t n =
     let o = value_at c.loop-k.table t.0 n.0 0 in
     subst (IsFoundIn p xs (k + 1))
     (sym
-      (c.in_ok-note_place.ensures t.0 n.0
-        ∙ ap (λ (b : Bool). option_or o (cond b (Some k) None))
-        (swapped x.worker.0 x.session.0 t.0 n.0 ∙ ap p c.index-list-k.is)))
+    (c.in_ok-note_place.ensures t.0 n.0
+    ∙ ap (λ (b : Bool). option_or o (cond b (Some k) None))
+    (swapped x.worker.0 x.session.0 t.0 n.0 ∙ ap p c.index-list-k.is)))
     (more_found p xs k x c.loop-k-test.true o (c.loop-k.invariant t n))

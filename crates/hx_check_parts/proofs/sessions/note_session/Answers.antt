@@ -15,11 +15,11 @@ returns c records size keeps t n =
     noted t n records c.args.told c.covered_at-covered.result c.covered_more-more.result (value_at table t.0 n.0 0)
     (value_at c.put.new.self t.0 n.0 0) ((t.0 == a && n.0 == b) && 0 == 0)
     (line_is t n c.args.told
-      ∙ ap (λ (x : ThreadNo × SessionNo). (t.0 == x.0.0 && n.0 == x.1.0) && 0 == 0) (sym c.session_in.ensures))
+    ∙ ap (λ (x : ThreadNo × SessionNo). (t.0 == x.0.0 && n.0 == x.1.0) && 0 == 0) (sym c.session_in.ensures))
     (c.in_ok-put.ensures t.0 n.0 0)
     (λ same.
-      let e = numbers_are t.0 n.0 a b same in
-      ap (λ (x : ℕ). covered_in (value_at table x n.0 0)) e.0 ∙ ap (λ (y : ℕ). covered_in (value_at table a y 0)) e.1
-      ∙ sym c.covered_at-covered.ensures)
+    let e = numbers_are t.0 n.0 a b same in
+    ap (λ (x : ℕ). covered_in (value_at table x n.0 0)) e.0 ∙ ap (λ (y : ℕ). covered_in (value_at table a y 0)) e.1
+    ∙ sym c.covered_at-covered.ensures)
     (keeps t n)
     (λ is x. c.covered_more-more.ensures t n records is size x)

@@ -11,5 +11,5 @@ returns c records there covered = (
   λ left.
       c.ends_at.ensures.1
       (ends c.args.left records c.args.k there c.args.clients.now c.args.covered _ _
-        (ap (λ (xs : List ℕ). length xs) c.took-took.ensures) (ap (λ (xs : List ℕ). length xs) c.gave-gave.ensures) covered left),
+      (ap (λ (xs : List ℕ). length xs) c.took-took.ensures) (ap (λ (xs : List ℕ). length xs) c.gave-gave.ensures) covered left),
 )
