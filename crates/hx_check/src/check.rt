@@ -8,7 +8,9 @@ ghost use Rattle.hx_check.specs.Broken.{MarksAreFine};
 ghost use Rattle.hx_check.specs.Conns.{line_of};
 ghost use Rattle.hx_check.specs.Judged.{Judges};
 
-use crate::breaks::{client_break, conn_break, left_break, legal_break, mark_break, record_break, sum_break};
+use crate::breaks::{
+    client_break, conn_break, left_break, legal_break, mark_break, record_break, sum_break,
+};
 use crate::broken::Broken;
 use crate::lines::{behind, clients_at, conns_at, pairs_behind, records_at, totals_at};
 use crate::marks::MarkRule;

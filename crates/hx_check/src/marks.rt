@@ -8,7 +8,9 @@ ghost use Rattle.hx_check.specs.Asked.{asked_of};
 
 use crate::lines::{behind, behind_server};
 use hx_base::NoMemory;
-use hx_check_parts::{first_against_mode, first_illegal, first_illegal_by_tables, first_past_limit};
+use hx_check_parts::{
+    first_against_mode, first_illegal, first_illegal_by_tables, first_past_limit,
+};
 use hx_script::ServerPart;
 use std::alloc::Global;
 

@@ -10,6 +10,6 @@ pub returns-in-Some : goal.returns-in-Some
 returns-in-Some c =
     let servers = c.args.t.now.servers in
     let e = subst
-        (λ (o : Option ℕ). MatchOption o (MarksHold LegalMark servers)
-          (λ told. (line : ℕ) × MarkBreaks LegalMark servers line × (told ≡ told_line line)))
-        c.in-Some.is c.in_ok-legal_break.ensures in (e.0, legal e.1, e.2)
+    (λ (o : Option ℕ). MatchOption o (MarksHold LegalMark servers)
+    (λ told. (line : ℕ) × MarkBreaks LegalMark servers line × (told ≡ told_line line)))
+    c.in-Some.is c.in_ok-legal_break.ensures in (e.0, legal e.1, e.2)

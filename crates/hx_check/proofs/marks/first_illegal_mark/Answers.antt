@@ -15,8 +15,8 @@ returns-in-Some c =
     let k = c.loop-k.k in
     let x = c.index-servers-k.result in
     let fails : FailsFirst (LegalMark x) x.marks c.in-Some.mark =
-        subst (λ (o : Option ℕ). MatchOption o (HoldsOfEach (LegalMark x) x.marks) (λ j. FailsFirst (LegalMark x) x.marks j)) c.in-Some.is
-        c.in_ok-illegal_in.ensures in (
+    subst (λ (o : Option ℕ). MatchOption o (HoldsOfEach (LegalMark x) x.marks) (λ j. FailsFirst (LegalMark x) x.marks j)) c.in-Some.is
+    c.in_ok-illegal_in.ensures in (
       server_lines (take k servers) + 3 + c.in-Some.mark,
       record {
         server = k;
@@ -39,8 +39,8 @@ loop-k-preserved c =
     let k = c.loop-k.k in
     let x = c.index-servers-k.result in
     let fine : HoldsOfEach (LegalMark x) x.marks =
-        subst (λ (o : Option ℕ). MatchOption o (HoldsOfEach (LegalMark x) x.marks) (λ j. FailsFirst (LegalMark x) x.marks j)) c.in-None.is
-        c.in_ok-illegal_in.ensures in
+    subst (λ (o : Option ℕ). MatchOption o (HoldsOfEach (LegalMark x) x.marks) (λ j. FailsFirst (LegalMark x) x.marks j)) c.in-None.is
+    c.in_ok-illegal_in.ensures in
     record {
       below = more_at (λ (i : ℕ) (p : ServerPart). HoldsOfEach (LegalMark p) p.marks) servers k x c.loop-k-test.true c.index-servers-k.is
           c.loop-k.invariant.below fine;
