@@ -5,3 +5,4 @@ pub mod Broken
 pub mod Asked
 pub mod Conns
 pub mod Judged
+pub mod PartsOf

@@ -6,9 +6,10 @@ mod broken;
 mod check;
 mod lines;
 mod marks;
+mod parts;
 mod records;
 mod sums;
 mod tiles;
 
 pub use broken::Broken;
-pub use check::check_transcript;
+pub use check::{check_by_tables, check_transcript};

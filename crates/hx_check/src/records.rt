@@ -7,9 +7,9 @@ ghost use Rattle.hx_check_parts.specs.Each.{HoldsOfEach, FailsFirst};
 ghost use Rattle.hx_check.specs.Records.{Ranges, ask_bytes, sent_bytes, took_bytes, gave_bytes, KindHolds, RecordHolds, RecordIn};
 
 use hx_base::Span;
-use hx_check_parts::{client_gave, client_took, conn_sent, conn_took};
+use hx_check_parts::{Clients, Conns};
 use hx_check_records::{cut_holds, own_holds, pass_holds};
-use hx_script::{Carried, ClientBytes, ConnBytes, CutCause, Kind, Served, Told};
+use hx_script::{Carried, CutCause, Kind, Served, Told};
 
 fn lies_in(span: Span, bytes: &[u8]) -> bool
     ensures { IsTrue result ↔ LiesIn span bytes.now }
@@ -26,44 +26,44 @@ fn part(bytes: &[u8], span: Span) -> &[u8]
 }
 
 /// Whether the ranges of an exchange lie in the bytes of its links.
-fn ranges_lie(clients: &[ClientBytes], conns: &[ConnBytes], s: Served, c: Carried) -> bool
+fn ranges_lie(clients: &Clients<'_>, conns: &Conns<'_>, s: Served, c: Carried) -> bool
     ensures { IsTrue result ↔ Ranges clients.now conns.now s c }
 {
-    lies_in(s.ask, client_took(clients, s.worker, s.session))
-        && lies_in(c.sent, conn_sent(conns, c.server, c.id))
-        && lies_in(c.took, conn_took(conns, c.server, c.id))
-        && lies_in(s.gave, client_gave(clients, s.worker, s.session))
+    lies_in(s.ask, clients.took(s.worker, s.session))
+        && lies_in(c.sent, conns.sent(c.server, c.id))
+        && lies_in(c.took, conns.took(c.server, c.id))
+        && lies_in(s.gave, clients.gave(s.worker, s.session))
 }
 
-fn ask_of(clients: &[ClientBytes], s: Served) -> &[u8]
+fn ask_of<'a>(clients: &Clients<'a>, s: Served) -> &'a [u8]
     requires { LiesIn s.ask (client_took clients.now s.worker s.session) }
     ensures { result.now ≡ ask_bytes clients.now s }
 {
-    part(client_took(clients, s.worker, s.session), s.ask)
+    part(clients.took(s.worker, s.session), s.ask)
 }
 
-fn gave_of(clients: &[ClientBytes], s: Served) -> &[u8]
+fn gave_of<'a>(clients: &Clients<'a>, s: Served) -> &'a [u8]
     requires { LiesIn s.gave (client_gave clients.now s.worker s.session) }
     ensures { result.now ≡ gave_bytes clients.now s }
 {
-    part(client_gave(clients, s.worker, s.session), s.gave)
+    part(clients.gave(s.worker, s.session), s.gave)
 }
 
-fn sent_of(conns: &[ConnBytes], c: Carried) -> &[u8]
+fn sent_of<'a>(conns: &Conns<'a>, c: Carried) -> &'a [u8]
     requires { LiesIn c.sent (conn_sent conns.now c.server c.id) }
     ensures { result.now ≡ sent_bytes conns.now c }
 {
-    part(conn_sent(conns, c.server, c.id), c.sent)
+    part(conns.sent(c.server, c.id), c.sent)
 }
 
-fn took_of(conns: &[ConnBytes], c: Carried) -> &[u8]
+fn took_of<'a>(conns: &Conns<'a>, c: Carried) -> &'a [u8]
     requires { LiesIn c.took (conn_took conns.now c.server c.id) }
     ensures { result.now ≡ took_bytes conns.now c }
 {
-    part(conn_took(conns, c.server, c.id), c.took)
+    part(conns.took(c.server, c.id), c.took)
 }
 
-fn passed_holds(clients: &[ClientBytes], conns: &[ConnBytes], s: Served, c: Carried) -> bool
+fn passed_holds(clients: &Clients<'_>, conns: &Conns<'_>, s: Served, c: Carried) -> bool
     ensures { IsTrue result ↔ KindHolds clients.now conns.now s (kind.Passed c) }
 {
     if !ranges_lie(clients, conns, s, c) {
@@ -74,8 +74,8 @@ fn passed_holds(clients: &[ClientBytes], conns: &[ConnBytes], s: Served, c: Carr
 }
 
 fn was_cut_holds(
-    clients: &[ClientBytes],
-    conns: &[ConnBytes],
+    clients: &Clients<'_>,
+    conns: &Conns<'_>,
     s: Served,
     c: Carried,
     why: CutCause,
@@ -89,19 +89,19 @@ fn was_cut_holds(
     cut_holds(c.closing, ask, sent_of(conns, c), took_of(conns, c), gave)
 }
 
-fn answered_holds(clients: &[ClientBytes], conns: &[ConnBytes], s: Served, status: u16) -> bool
+fn answered_holds(clients: &Clients<'_>, conns: &Conns<'_>, s: Served, status: u16) -> bool
     ensures { IsTrue result ↔ KindHolds clients.now conns.now s (kind.Own status) }
 {
-    if !lies_in(s.ask, client_took(clients, s.worker, s.session)) {
+    if !lies_in(s.ask, clients.took(s.worker, s.session)) {
         return false;
     }
-    if !lies_in(s.gave, client_gave(clients, s.worker, s.session)) {
+    if !lies_in(s.gave, clients.gave(s.worker, s.session)) {
         return false;
     }
     own_holds(status, gave_of(clients, s))
 }
 
-fn served_holds(clients: &[ClientBytes], conns: &[ConnBytes], s: Served) -> bool
+fn served_holds(clients: &Clients<'_>, conns: &Conns<'_>, s: Served) -> bool
     ensures { IsTrue result ↔ KindHolds clients.now conns.now s s.kind }
 {
     match s.kind {
@@ -111,19 +111,19 @@ fn served_holds(clients: &[ClientBytes], conns: &[ConnBytes], s: Served) -> bool
     }
 }
 
-fn record_holds(clients: &[ClientBytes], conns: &[ConnBytes], told: Told) -> bool
+fn record_holds(clients: &Clients<'_>, conns: &Conns<'_>, told: Told) -> bool
     ensures { IsTrue result ↔ RecordHolds clients.now conns.now told }
 {
     match told {
         Told::Served(s) => served_holds(clients, conns, s),
-        Told::Left(x) => lies_in(x.ask, client_took(clients, x.worker, x.session)),
+        Told::Left(x) => lies_in(x.ask, clients.took(x.worker, x.session)),
     }
 }
 
 /// The first record that is not true of its bytes.
 pub(crate) fn first_false(
-    clients: &[ClientBytes],
-    conns: &[ConnBytes],
+    clients: &Clients<'_>,
+    conns: &Conns<'_>,
     records: &[Told],
 ) -> Option<usize>
     ensures { MatchOption result (HoldsOfEach (RecordIn clients.now conns.now) records.now)

@@ -4,8 +4,8 @@ ghost use Rattle.hx_check_parts.specs.Each.{HoldsOfEach};
 ghost use Rattle.hx_check.specs.Conns.{IsFirst};
 ghost use Rattle.hx_check.specs.Rules.{ConnIn};
 
-use hx_check_parts::{sent_holds, took_holds};
-use hx_script::{ConnBytes, Told};
+use hx_check_parts::{Records, sent_holds, took_holds};
+use hx_script::ConnBytes;
 
 /// Where a connection breaks the rule.
 #[derive(Clone, Copy)]
@@ -17,7 +17,7 @@ pub(crate) enum ConnBreak {
 }
 
 /// The first connection that breaks the rule.
-pub(crate) fn first_conn(records: &[Told], conns: &[ConnBytes]) -> Option<ConnBreak>
+pub(crate) fn first_conn(records: &Records<'_>, conns: &[ConnBytes]) -> Option<ConnBreak>
     ensures { MatchOption result (HoldsOfEach (ConnIn records.now) conns.now)
         (IsFirst records.now conns.now) }
 {

@@ -6,3 +6,9 @@ pub mod Ranges
 pub mod Tiling
 pub mod Ways
 pub mod Samples
+pub mod Lasts
+pub mod Here
+pub mod Found
+pub mod Sessions
+pub mod Numbers
+pub mod Kept

@@ -4,6 +4,7 @@ ghost use Rattle.hx_record.specs.Tiles.{carried_of};
 ghost use Rattle.hx_check_parts.specs.Tiling.{exchanges_of, numbered, end_of, SentHolds, TookHolds, AreNumbered, Follow};
 ghost use Rattle.hx_check_parts.specs.Ways.{range_on};
 
+use crate::records::Records;
 use hx_base::Span;
 use hx_record::{Carried, ConnBytes, Kind, Told};
 
@@ -25,8 +26,8 @@ fn carried_of(conn: &ConnBytes, told: Told) -> Option<Carried>
     }
 }
 
-/// How many exchanges the records tell of the connection.
-fn count_of(records: &[Told], conn: &ConnBytes) -> usize
+/// How many exchanges the records tell of the connection. It goes over all of them.
+fn count_among(records: &[Told], conn: &ConnBytes) -> usize
     ensures { result ≡ length (exchanges_of records.now conn.now) }
 {
     let mut count = 0;
@@ -38,8 +39,8 @@ fn count_of(records: &[Told], conn: &ConnBytes) -> usize
     count
 }
 
-/// The connection's exchange of that number.
-fn numbered(records: &[Told], conn: &ConnBytes, number: u64) -> Option<Carried>
+/// The connection's exchange of that number. It goes over the records.
+fn numbered_among(records: &[Told], conn: &ConnBytes, number: u64) -> Option<Carried>
     ensures { result ≡ numbered number (exchanges_of records.now conn.now) }
 {
     for told in records {
@@ -52,7 +53,27 @@ fn numbered(records: &[Told], conn: &ConnBytes, number: u64) -> Option<Carried>
     None
 }
 
-fn has_number(records: &[Told], conn: &ConnBytes, number: u64) -> bool
+/// How many exchanges the records tell of the connection.
+fn count_of(records: &Records<'_>, conn: &ConnBytes) -> usize
+    ensures { result ≡ length (exchanges_of records.now conn.now) }
+{
+    match records.tables() {
+        None => count_among(records.as_slice(), conn),
+        Some(tables) => tables.exchanges.count_of(conn),
+    }
+}
+
+/// The connection's exchange of that number.
+fn numbered(records: &Records<'_>, conn: &ConnBytes, number: u64) -> Option<Carried>
+    ensures { result ≡ numbered number (exchanges_of records.now conn.now) }
+{
+    match records.tables() {
+        None => numbered_among(records.as_slice(), conn, number),
+        Some(tables) => tables.exchanges.numbered(conn, number),
+    }
+}
+
+fn has_number(records: &Records<'_>, conn: &ConnBytes, number: u64) -> bool
     ensures { IsTrue result ↔ IsSome (numbered number (exchanges_of records.now conn.now)) }
 {
     numbered(records, conn, number).is_some()
@@ -87,7 +108,7 @@ fn end_on(way: Way, carried: Option<Carried>) -> u64
 }
 
 /// Whether each number from 1 on is there.
-fn are_numbered(records: &[Told], conn: &ConnBytes) -> bool
+fn are_numbered(records: &Records<'_>, conn: &ConnBytes) -> bool
     ensures { IsTrue result ↔ AreNumbered (exchanges_of records.now conn.now) }
 {
     for k in 0..count_of(records, conn) {
@@ -108,7 +129,7 @@ fn begins_at(way: Way, carried: Option<Carried>, at: u64) -> bool
 }
 
 /// Whether the ranges follow each other by rising number.
-fn follow(way: Way, records: &[Told], conn: &ConnBytes) -> bool
+fn follow(way: Way, records: &Records<'_>, conn: &ConnBytes) -> bool
     ensures { IsTrue result ↔ Follow (range_on way) (exchanges_of records.now conn.now) }
 {
     let mut last = numbered(records, conn, 0);
@@ -123,14 +144,14 @@ fn follow(way: Way, records: &[Told], conn: &ConnBytes) -> bool
 }
 
 /// Whether the connection's exchanges are numbered, and what was sent in them follows each other.
-pub fn sent_holds(records: &[Told], conn: &ConnBytes) -> bool
+pub fn sent_holds(records: &Records<'_>, conn: &ConnBytes) -> bool
     ensures { IsTrue result ↔ SentHolds records.now conn.now }
 {
     are_numbered(records, conn) && follow(Way::Sent, records, conn)
 }
 
 /// Whether what was read in the connection's exchanges follows each other.
-pub fn took_holds(records: &[Told], conn: &ConnBytes) -> bool
+pub fn took_holds(records: &Records<'_>, conn: &ConnBytes) -> bool
     ensures { IsTrue result ↔ TookHolds records.now conn.now }
 {
     follow(Way::Took, records, conn)

@@ -3,19 +3,24 @@
 
 mod exchanges;
 mod last;
+mod lasts;
 mod legal;
 mod limit;
 mod links;
 mod mode;
+mod numbers;
 mod ranges;
+mod records;
 mod samples;
+mod sessions;
 mod sums;
 mod tiles;
 
 pub use exchanges::{sent_holds, took_holds};
-pub use legal::first_illegal;
+pub use legal::{first_illegal, first_illegal_by_tables};
 pub use limit::first_past_limit;
-pub use links::{client_gave, client_took, conn_sent, conn_took};
+pub use links::{Clients, Conns};
 pub use mode::first_against_mode;
+pub use records::Records;
 pub use sums::sums_of;
 pub use tiles::{first_loose_left, first_without_left};

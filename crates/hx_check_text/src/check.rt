@@ -4,7 +4,7 @@ ghost use Rattle.hx_script.specs.Numbers.{HasNumbers};
 ghost use Rattle.hx_check_text.specs.Checked.{IsJudged, IsChecked};
 
 use hx_base::NoMemory;
-use hx_check::{Broken, check_transcript};
+use hx_check::{Broken, check_by_tables};
 use hx_script::{TextFault, Transcript, numbers_fit};
 use hx_transcripts::read_transcript;
 use std::alloc::Global;
@@ -30,14 +30,14 @@ pub enum Checked {
     },
 }
 
-fn judged(t: &Transcript) -> Checked
-    ensures judged { IsJudged t.now result }
+fn judged(alloc: Global, t: &Transcript) -> Result<Checked, NoMemory>
+    ensures judged { IfOk result (IsJudged t.now) }
     ensures numbers { HasNumbers t.now }
 {
     numbers_fit(t);
-    match check_transcript(t) {
-        None => Checked::Holds,
-        Some(Broken { rule, line }) => Checked::Broken { rule, line },
+    match check_by_tables(alloc, t)? {
+        None => Ok(Checked::Holds),
+        Some(Broken { rule, line }) => Ok(Checked::Broken { rule, line }),
     }
 }
 
@@ -48,7 +48,7 @@ pub fn check_text(alloc: Global, text: &[u8]) -> Result<Checked, NoMemory>
     ensures { IfOk result (λ c. IsChecked text.now c) }
 {
     match read_transcript(alloc, text) {
-        Ok(t) => Ok(judged(&t)),
+        Ok(t) => Ok(judged(alloc, &t)?),
         Err(TextFault::At { line, rule }) => Ok(Checked::Fault { line, rule }),
         Err(_) => Err(NoMemory),
     }

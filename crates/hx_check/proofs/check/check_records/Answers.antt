@@ -9,6 +9,6 @@ returns-in-Some c =
     let t = c.args.t.now in
     let k = c.in-Some.k in (
       records_at t + k,
-      records c.requires (k, c.in-Some.ensures, refl),
+      records c.requires.marks (k, c.in-Some.ensures, refl),
       told_more (records_at t) k c.records_at.result c.behind.result c.behind.ensures c.records_at.ensures,
     )

@@ -1,17 +1,26 @@
 use Rattle.std.proofs.Common.{rules, sym, subst, arith}
 use Rattle.std.proofs.lemmas.List.Sums.{fold_more}
-use Rattle.hx_check_parts.specs.Marks.{marked, no_marks, IsStepAt}
+use Rattle.hx_check_parts.specs.Marks.{marked, no_marks, table_before, IsStepAt}
 use Rattle.hx_check_parts.specs.Last.{Counts}
-use Rattle.hx_check_parts.proofs.EachLemmas.{holds_more}
+use Rattle.hx_check_parts.proofs.EachLemmas.{holds_more, fails_first, is_not_true}
+use Rattle.hx_check_parts.proofs.MarkLemmas.{no_entry}
 use Rattle.hx_check_parts.proofs.legal.first_illegal.Goals as goal
+
+pub returns-then-not-is_step : goal.returns-then-not-is_step
+returns-then-not-is_step c =
+    let marks = c.args.marks.now in
+    let says = c.is_step.ensures (table_before marks c.loop-k.k) c.loop-k.invariant.numbers c.here_by_marks.ensures in
+    fails_first (IsStepAt marks) marks c.loop-k.k no_entry c.loop-k-test.true c.loop-k.invariant.below
+    (λ holds. is_not_true c.is_step.result c.if-not-is_step.true (says.1 holds))
 
 pub loop-k-preserved : goal.loop-k-preserved
 loop-k-preserved c =
     let marks = c.args.marks.now in
     let numbers = c.after-numbers.result in
+    let says = c.is_step.ensures (table_before marks c.loop-k.k) c.loop-k.invariant.numbers c.here_by_marks.ensures in
     record {
-      below = holds_more (IsStepAt marks) marks c.loop-k.k _ c.loop-k-test.true c.loop-k.invariant.below (c.is_step.ensures.0 (search rules));
-      numbers = subst (λ T. Counts T numbers.next numbers.round) (sym (fold_more marked no_marks marks c.loop-k.k _ c.loop-k-test.true))
+      below = holds_more (IsStepAt marks) marks c.loop-k.k no_entry c.loop-k-test.true c.loop-k.invariant.below (says.0 (search rules));
+      numbers = subst (λ T. Counts T numbers.next numbers.round) (sym (fold_more marked no_marks marks c.loop-k.k no_entry c.loop-k-test.true))
           (c.after-numbers.ensures.tells _ c.loop-k.invariant.numbers);
       small = omega arith;
     }

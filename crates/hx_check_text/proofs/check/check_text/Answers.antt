@@ -6,7 +6,9 @@ use Rattle.hx_check_text.proofs.Judging.{spelled, faulty}
 use Rattle.hx_check_text.proofs.check.check_text.Goals as goal
 
 pub returns-in-Ok : goal.returns-in-Ok
-returns-in-Ok c = spelled c.args.text.now c.in-Ok.t c.judged.result c.judged.ensures.numbers c.in-Ok.ensures.spells c.in-Ok.ensures.short c.judged.ensures.judged
+returns-in-Ok c =
+    spelled c.args.text.now c.in-Ok.t c.in_ok-judged.field-0 c.judged.ensures.numbers c.in-Ok.ensures.spells c.in-Ok.ensures.short
+    c.in_ok-judged.ensures.judged
 
 pub returns-in-Err-At : goal.returns-in-Err-At
 returns-in-Err-At c =

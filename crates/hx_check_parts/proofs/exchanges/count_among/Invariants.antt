@@ -1,6 +1,6 @@
 use Rattle.std.proofs.Common.{◌≡◌, ◌+◌, ◌≤◌, drop, length}
 use Rattle.hx_check_parts.specs.Tiling.{exchanges_of}
-use Rattle.hx_check_parts.proofs.exchanges.count_of.Given as goal
+use Rattle.hx_check_parts.proofs.exchanges.count_among.Given as goal
 
 abbrev pub invariant-loop-told : goal.invariant-loop-told
 invariant-loop-told l =
