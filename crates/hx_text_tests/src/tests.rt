@@ -2,6 +2,5 @@
 
 mod check;
 mod configurations;
-mod readings;
 mod scripts;
 mod transcripts;
