@@ -1,0 +1,4 @@
+pub mod Load
+pub mod Samples
+pub mod Mirrors
+pub mod MirrorNets
