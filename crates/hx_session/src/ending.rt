@@ -22,6 +22,7 @@ ghost use Rattle.hx_session.specs.Causes.{Limits};
 ghost use Rattle.hx_session.specs.First.{IsEnding};
 ghost use Rattle.hx_session.specs.Leaving.{CameLeaves, LeavesBy};
 ghost use Rattle.hx_session.specs.Owning.{CameOwn, OwnAt};
+ghost use Rattle.hx_session.specs.Still.{HasMoved};
 ghost use Rattle.hx_session.specs.Over.{served_of, after_record};
 ghost use Rattle.hx_session.specs.Stages.{Exchanging, Reading, StandsSo, own_stage, stage_of_answering, stage_now};
 ghost use Rattle.hx_record.specs.declared.served.CutCause.TheVariants.{Early};
@@ -162,6 +163,7 @@ pub(crate) fn cut<L: Link, S: Seat<Rested<L>>, N: Net<L = L>>(
     ensures ends { EndsInCut (desk_now L.state desk.old) (desk_now L.state desk.new) (exchange_now exchange) cause result }
     ensures goes { Goes (desk_now L.state desk.old) (Exchanging (exchange_now exchange)) (map S.history seats.old) (N.state net.old)
         (desk_now L.state desk.new) result (map S.history seats.new) (N.state net.new) }
+    ensures moved { HasMoved result }
 {
     let served = cut_off(desk, exchange, seats, net, cause);
     desk.drop_waiting();
@@ -190,6 +192,7 @@ pub(crate) fn give_up<L: Link, S: Seat<Rested<L>>, N: Net<L = L>>(
     ensures rooms { RoomsStay S.history (room_of S.kept_from S.spare) seats.old seats.new }
     ensures goes { Goes (desk_now L.state desk.old) (Exchanging (exchange_now exchange)) (map S.history seats.old) (N.state net.old)
         (desk_now L.state desk.new) result (map S.history seats.new) (N.state net.new) }
+    ensures moved { HasMoved result }
 {
     close_busy(seats, net, desk.session, exchange.busy);
     let stage = answer(desk, own.status, None, own.now);
@@ -211,6 +214,7 @@ pub(crate) fn end_by_server<L: Link, S: Seat<Rested<L>>, N: Net<L = L>>(
     ensures rooms { RoomsStay S.history (room_of S.kept_from S.spare) seats.old seats.new }
     ensures goes { Goes (desk_now L.state desk.old) (Exchanging (exchange_now exchange)) (map S.history seats.old) (N.state net.old)
         (desk_now L.state desk.new) result (map S.history seats.new) (N.state net.new) }
+    ensures moved { HasMoved result }
 {
     if desk.has_given() {
         cut(desk, exchange, seats, net, why.0)
@@ -240,6 +244,7 @@ pub(crate) fn lose_server<L: Link, S: Seat<Rested<L>>, N: Net<L = L>>(
     ensures rooms { RoomsStay S.history (room_of S.kept_from S.spare) seats.old seats.new }
     ensures goes { Goes (desk_now L.state desk.old) (Exchanging (exchange_now exchange)) (map S.history seats.old) (N.state net.old)
         (desk_now L.state desk.new) result (map S.history seats.new) (N.state net.new) }
+    ensures moved { HasMoved result }
 {
     if is_silent(desk, &exchange) {
         cut(desk, exchange, seats, net, CutCause::Silent)
@@ -263,6 +268,7 @@ pub(crate) fn leave_answering<L: Link>(
     ensures left { (limits : Limits) (moment : ℕ) → LeavesBy limits moment (desk_now L.state desk.old) left
         → CameLeaves limits moment (desk_now L.state desk.new) result }
     ensures own { CameOwn answering.status (L.state desk.old.client).taken_count (desk_now L.state desk.new) result }
+    ensures moved { HasMoved result }
 {
     let Answering { status, held } = answering;
     let served = tell_own(desk, status);
@@ -287,6 +293,7 @@ pub(crate) fn leave_or_cut<L: Link, S: Seat<Rested<L>>, N: Net<L = L>>(
     ensures left { (limits : Limits) (moment : ℕ) → CameLeaves limits moment (desk_now L.state desk.new) result }
     ensures own { (status taken : ℕ) → OwnAt status taken (desk_now L.state desk.old) (stage_now stage)
         → CameOwn status taken (desk_now L.state desk.new) result }
+    ensures moved { HasMoved result }
 {
     match stage {
         Stage::Exchanging(exchange) => cut(desk, exchange, seats, net, CutCause::Client),

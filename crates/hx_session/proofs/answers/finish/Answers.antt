@@ -52,4 +52,5 @@ returns g c =
         told = c.after_pass.ensures.told d0 (exchange_now c.args.exchange) c.is_closing-closing.ensures passed.gives passed.told;
       };
       rooms = passed.rooms;
+      moved = c.after_pass.ensures.moved;
     }

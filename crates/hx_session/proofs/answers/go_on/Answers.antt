@@ -1,4 +1,4 @@
-use Rattle.std.proofs.Common.{List, map}
+use Rattle.std.proofs.Common.{List, map, inl}
 use Rattle.hx_link.specs.Nets.{NetState}
 use Rattle.hx_pool.specs.SeatView.{History}
 use Rattle.hx_session.specs.Desks.{desk_now, DeskNow}
@@ -8,6 +8,7 @@ use Rattle.hx_connecting.specs.Journals.{room_of}
 use Rattle.hx_connecting.proofs.RoomLemmas.{rooms_none}
 use Rattle.hx_session.proofs.PartLemmas.{went_on, still_on}
 use Rattle.hx_session.proofs.TellLemmas.{still_same}
+use Rattle.hx_session.proofs.PausedLemmas.{left_where, stays_left}
 use Rattle.hx_session.proofs.answers.go_on.Goals as goal
 
 pub returns-in-PassAsk : goal.returns-in-PassAsk
@@ -21,6 +22,7 @@ returns-in-PassAsk g c =
     let p = c.pass_ask.ensures in
     record {
       goes = went_on d d2 e e2 seats net c.goes_on.result c.requires.placed p.keeps p.conn p.carried p.good (c.goes_on.ensures.placed d2 seats) c.goes_on.ensures.routed (c.goes_on.ensures.told d d2 (Exchanging e) p.told) c.goes_on.ensures.conn c.goes_on.ensures.none p.stays p.told (c.goes_on.ensures.picks seats);
+      still = left_where d (Exchanging e) d2 c.goes_on.result c.goes_on.ensures.still;
       rooms = rooms_none g.S.HasHistory.history (room_of g.S.HasHistory.kept_from g.S.HasHistory.spare) c.args.seats.now;
     }
 
@@ -35,6 +37,7 @@ returns-in-PassAnswer g c =
     let p = c.pass_answer.ensures in
     record {
       goes = went_on d d2 e e2 seats net c.goes_on-in-PassAnswer.result c.requires.placed p.keeps p.conn p.carried p.good (c.goes_on-in-PassAnswer.ensures.placed d2 seats) c.goes_on-in-PassAnswer.ensures.routed (c.goes_on-in-PassAnswer.ensures.told d d2 (Exchanging e) p.told) c.goes_on-in-PassAnswer.ensures.conn c.goes_on-in-PassAnswer.ensures.none p.stays p.told (c.goes_on-in-PassAnswer.ensures.picks seats);
+      still = left_where d (Exchanging e) d2 c.goes_on-in-PassAnswer.result c.goes_on-in-PassAnswer.ensures.still;
       rooms = rooms_none g.S.HasHistory.history (room_of g.S.HasHistory.kept_from g.S.HasHistory.spare) c.args.seats.now;
     }
 
@@ -49,3 +52,40 @@ returns-in-Nothing-clause-goes g c =
     let net : NetState = g.N.Net.state c.args.net.now in
     let k = c.goes_on-in-Nothing.ensures in
     still_on d e seats net c.goes_on-in-Nothing.result c.requires.placed k.conn k.none (k.placed d seats) k.routed (k.told d d (Exchanging e) (still_same d (Exchanging e))) (k.picks seats)
+
+pub look_for_head-requires-clause-heads : goal.look_for_head-requires-clause-heads
+look_for_head-requires-clause-heads g c = c.in-LookForHead.ensures.0
+
+pub returns-in-LookForHead-clause-still : goal.returns-in-LookForHead-clause-still
+returns-in-LookForHead-clause-still g c = c.look_for_head.ensures.still c.in-LookForHead.ensures.1
+
+pub returns-in-Nothing-clause-still : goal.returns-in-Nothing-clause-still
+returns-in-Nothing-clause-still g c =
+    let d : DeskNow = desk_now g.L.Link.state c.args.desk.now in
+    let e : ExchangeNow = exchange_now c.args.exchange in
+    stays_left d e c.goes_on-in-Nothing.result (c.in-Nothing.ensures.0, inl c.in-Nothing.ensures.1) c.goes_on-in-Nothing.ensures.still
+
+pub returns-in-BadAsk-clause-still : goal.returns-in-BadAsk-clause-still
+returns-in-BadAsk-clause-still g c =
+    let d : DeskNow = desk_now g.L.Link.state c.args.desk.now in
+    left_where d (Exchanging (exchange_now c.args.exchange)) (desk_now g.L.Link.state c.refuse_ask.new.desk) c.refuse_ask.result c.refuse_ask.ensures.moved
+
+pub returns-in-BadAnswer-clause-still : goal.returns-in-BadAnswer-clause-still
+returns-in-BadAnswer-clause-still g c =
+    let d : DeskNow = desk_now g.L.Link.state c.args.desk.now in
+    left_where d (Exchanging (exchange_now c.args.exchange)) (desk_now g.L.Link.state c.end_by_server.new.desk) c.end_by_server.result c.end_by_server.ensures.moved
+
+pub returns-in-ClientEnded-clause-still : goal.returns-in-ClientEnded-clause-still
+returns-in-ClientEnded-clause-still g c =
+    let d : DeskNow = desk_now g.L.Link.state c.args.desk.now in
+    left_where d (Exchanging (exchange_now c.args.exchange)) (desk_now g.L.Link.state c.cut.new.desk) c.cut.result c.cut.ensures.moved
+
+pub returns-in-Finish-clause-still : goal.returns-in-Finish-clause-still
+returns-in-Finish-clause-still g c =
+    let d : DeskNow = desk_now g.L.Link.state c.args.desk.now in
+    left_where d (Exchanging (exchange_now c.args.exchange)) (desk_now g.L.Link.state c.finish.new.desk) c.finish.result c.finish.ensures.moved
+
+pub returns-in-ServerEnded-clause-still : goal.returns-in-ServerEnded-clause-still
+returns-in-ServerEnded-clause-still g c =
+    let d : DeskNow = desk_now g.L.Link.state c.args.desk.now in
+    left_where d (Exchanging (exchange_now c.args.exchange)) (desk_now g.L.Link.state c.lose_server.new.desk) c.lose_server.result c.lose_server.ensures.moved

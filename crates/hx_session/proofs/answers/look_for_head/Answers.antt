@@ -1,4 +1,4 @@
-use Rattle.std.proofs.Common.{List, map, sym, subst}
+use Rattle.std.proofs.Common.{List, map, sym, subst, ap}
 use Rattle.hx_link.specs.Nets.{NetState}
 use Rattle.hx_link.specs.Pipes.{PipeNow}
 use Rattle.hx_pool.specs.SeatView.{History}
@@ -11,6 +11,9 @@ use Rattle.hx_connecting.specs.Journals.{room_of}
 use Rattle.hx_connecting.proofs.RoomLemmas.{rooms_none}
 use Rattle.hx_session.proofs.PartLemmas.{went_on, still_on}
 use Rattle.hx_session.proofs.TellLemmas.{still_same}
+use Rattle.hx_session.proofs.PausedLemmas.{heads_leave, left_where, spelled_leaves}
+use Rattle.hx_session.specs.Finishing.{SpellsNone}
+use Rattle.hx_session.specs.Waiting.{LeavesNothing}
 use Rattle.hx_session.proofs.answers.look_for_head.Goals as goal
 
 pub returns-in-Interim : goal.returns-in-Interim
@@ -26,6 +29,7 @@ returns-in-Interim g c =
     let still : IsStillTold d (Exchanging e) d2 (Exchanging e2) = subst (λ (p : PipeNow). IsStillTold (record d { down = p }) (Exchanging e) d2 (Exchanging e2)) c.look_down.ensures.same s.told in
     record {
       goes = went_on d d2 e e2 seats net c.goes_on.result c.requires.placed keeps s.conn s.carried s.good (c.goes_on.ensures.placed d2 seats) c.goes_on.ensures.routed (c.goes_on.ensures.told d d2 (Exchanging e) still) c.goes_on.ensures.conn c.goes_on.ensures.none s.stays still (c.goes_on.ensures.picks seats);
+      still = λ idle. spelled_leaves d e d2 e2 c.spell_interim-spelled.result c.goes_on.result (λ no_. subst (λ (p : PipeNow). SpellsNone (record d { down = p }) e d2 e2) c.look_down.ensures.same (s.full no_)) c.goes_on.ensures.still idle;
       rooms = rooms_none g.S.HasHistory.history (room_of g.S.HasHistory.kept_from g.S.HasHistory.spare) c.args.seats.now;
     }
 
@@ -42,6 +46,7 @@ returns-in-Final g c =
     let still : IsStillTold d (Exchanging e) d2 (Exchanging e2) = subst (λ (p : PipeNow). IsStillTold (record d { down = p }) (Exchanging e) d2 (Exchanging e2)) c.look_down.ensures.same s.told in
     record {
       goes = went_on d d2 e e2 seats net c.goes_on-in-Final.result c.requires.placed keeps s.conn s.carried s.good (c.goes_on-in-Final.ensures.placed d2 seats) c.goes_on-in-Final.ensures.routed (c.goes_on-in-Final.ensures.told d d2 (Exchanging e) still) c.goes_on-in-Final.ensures.conn c.goes_on-in-Final.ensures.none s.stays still (c.goes_on-in-Final.ensures.picks seats);
+      still = λ idle. spelled_leaves d e d2 e2 c.spell_final-spelled.result c.goes_on-in-Final.result (λ no_. subst (λ (p : PipeNow). SpellsNone (record d { down = p }) e d2 e2) c.look_down.ensures.same (s.full no_)) c.goes_on-in-Final.ensures.still idle;
       rooms = rooms_none g.S.HasHistory.history (room_of g.S.HasHistory.kept_from g.S.HasHistory.spare) c.args.seats.now;
     }
 
@@ -57,3 +62,20 @@ returns-else-exchange-clause-goes g c =
     let k = c.goes_on-else-exchange.ensures in
     let came = c.goes_on-else-exchange.result in
     subst (λ (p : PipeNow). Goes d (Exchanging e) seats net (record d { down = p }) came seats net) (sym c.look_down.ensures.same) (still_on d e seats net came c.requires.placed k.conn k.none (k.placed d seats) k.routed (k.told d d (Exchanging e) (still_same d (Exchanging e))) (k.picks seats))
+
+pub returns-else-exchange-clause-still : goal.returns-else-exchange-clause-still
+returns-else-exchange-clause-still g c = λ idle.
+    let d : DeskNow = desk_now g.L.Link.state c.args.desk.now in
+    let e : ExchangeNow = exchange_now c.args.exchange in
+    heads_leave d e (record d { down = c.look_down.new.down }) c.goes_on-else-exchange.result (ap (λ (p : PipeNow). record d { down = p }) c.look_down.ensures.same)
+    c.if-exchange.false c.requires.heads c.in-More.ensures.looks c.goes_on-else-exchange.ensures.still idle
+
+pub returns-then-exchange-clause-still : goal.returns-then-exchange-clause-still
+returns-then-exchange-clause-still g c = λ idle.
+    let d : DeskNow = desk_now g.L.Link.state c.args.desk.now in
+    left_where d (Exchanging (exchange_now c.args.exchange)) (desk_now g.L.Link.state c.lose_server.new.desk) c.lose_server.result c.lose_server.ensures.moved
+
+pub returns-in-Broken-clause-still : goal.returns-in-Broken-clause-still
+returns-in-Broken-clause-still g c = λ idle.
+    let d : DeskNow = desk_now g.L.Link.state c.args.desk.now in
+    left_where d (Exchanging (exchange_now c.args.exchange)) (desk_now g.L.Link.state c.end_by_server.new.desk) c.end_by_server.result c.end_by_server.ensures.moved

@@ -8,7 +8,8 @@ use Rattle.hx_session.proofs.PartLemmas.{goes_choosing}
 use Rattle.hx_session.specs.Stages.{Reading}
 use Rattle.hx_session.specs.Standing.{Goes, IsPlaced}
 use Rattle.std.proofs.lemmas.List.{nil_from_length}
-use Rattle.hx_session.proofs.LeavingLemmas.{none_empty}
+use Rattle.hx_session.proofs.LeavingLemmas.{empty_more}
+use Rattle.hx_session.specs.Waiting.{LeavesNothing}
 use Rattle.hx_session.proofs.asks.read_head.Goals as goal
 
 pub answer-stage-requires-clause-known : goal.answer-stage-requires-clause-known
@@ -24,6 +25,7 @@ returns-in-Whole g c = record {
       (ap (λ (q : PipeNow). record d { from = q }) c.look_up.ensures.same) refl refl server.ensures c.in-Whole.ensures.looks p;
   first = λ l f. omega (arith, c.len.ensures.len, c.if-len-eq0.false, ap length f.from);
   left = λ limits moment. tt;
+  still = tt;
 }
 
 pub returns-in-More-clause-goes : goal.returns-in-More-clause-goes
@@ -35,5 +37,11 @@ returns-in-More-clause-goes g c = λ seats net p.
     subst (λ (x : DeskNow). Goes x (Reading c.args.held) seats net d2 c.wait_for_head-in-More.result seats net) e
     (c.wait_for_head-in-More.ensures.goes seats net (subst (λ (x : DeskNow). IsPlaced x (Reading c.args.held) seats) (sym e) p))
 
-pub wait_for_head-requires-clause-none : goal.wait_for_head-requires-clause-none
-wait_for_head-requires-clause-none g c = none_empty c.args.desk.now.from.bytes (nil_from_length _ (sym c.len.ensures.len ∙ c.if-len-eq0.true))
+pub wait_for_head-requires-clause-more : goal.wait_for_head-requires-clause-more
+wait_for_head-requires-clause-more g c = empty_more c.args.desk.now.from.bytes (nil_from_length _ (sym c.len.ensures.len ∙ c.if-len-eq0.true))
+
+pub returns-in-More-clause-still : goal.returns-in-More-clause-still
+returns-in-More-clause-still g c =
+    let d : DeskNow = desk_now g.L.Link.state c.args.desk.now in
+    let d2 : DeskNow = record d { from = c.look_up.new.from } in
+    subst (λ (x : DeskNow). LeavesNothing x (Reading c.args.held) d2 c.wait_for_head-in-More.result) (ap (λ (q : PipeNow). record d { from = q }) c.look_up.ensures.same) c.wait_for_head-in-More.ensures.still

@@ -5,6 +5,8 @@ use Rattle.hx_session.proofs.PartLemmas.{goes_away, goes_still}
 use Rattle.hx_session.specs.declared.stage.Came.{Came}
 use Rattle.hx_session.specs.Leaving.{CameLeaves}
 use Rattle.hx_session.proofs.LeavingLemmas.{between_none}
+use Rattle.hx_session.specs.Waiting.{LeavesNothing}
+use Rattle.hx_session.specs.Stages.{Reading as Wanting}
 use Rattle.hx_session.proofs.asks.wait_for_head.Goals as goal
 
 false_true : false ≡ true → ⊥
@@ -19,7 +21,10 @@ returns-then-desk g c = record {
   left = λ limits moment.
       let d : DeskNow = desk_now g.L.Link.state c.args.desk.now in
       subst (λ (x : Came g.row.L.Denot). CameLeaves limits moment d x) (sym c.leave.ensures)
-      (c.requires.between.anew.desk.ended c.if-desk.true, between_none d c.requires.between c.requires.none);
+      (c.requires.between.anew.desk.ended c.if-desk.true, between_none d c.requires.between c.requires.more.1);
+  still =
+      let d : DeskNow = desk_now g.L.Link.state c.args.desk.now in
+      subst (λ (x : Came g.row.L.Denot). LeavesNothing d (Wanting c.args.held) d x) (sym c.leave.ensures) tt;
 }
 
 pub returns-else-desk : goal.returns-else-desk
@@ -29,4 +34,5 @@ returns-else-desk g c = record {
       goes_still d d (Reading c.args.held) c.args.waits seats net refl p;
   first = λ l f. record { held = f.held; is = f.is; client = f.client; from = f.from; room = f.room; to = f.to; ended = f.ended };
   left = λ limits moment. tt;
+  still = (refl, refl, (c.if-desk.false, c.requires.more));
 }

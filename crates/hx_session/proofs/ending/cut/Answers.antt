@@ -13,6 +13,7 @@ use Rattle.hx_session.specs.Exchanged.{exchange_now, ExchangeNow}
 use Rattle.hx_session.specs.declared.stage.Came.{Came}
 use Rattle.hx_session.specs.Ending.{EndsInCut}
 use Rattle.hx_session.proofs.PickLemmas.{never_none}
+use Rattle.hx_session.specs.Still.{HasMoved}
 use Rattle.hx_session.proofs.ending.cut.Goals as goal
 
 pub returns-clause-ends : goal.returns-clause-ends
@@ -42,3 +43,6 @@ returns-clause-goes g c =
     (inr (record { touch = w.touch; may = inr refl; counts = tt; at = w.at; way = w.way }))
     (cut_told d d1 d2 e c.args.cause c.cut_off-served.result c.requires.ends k.cuts is)
     (λ none. never_none e.busy none _ _ _)
+
+pub returns-clause-moved : goal.returns-clause-moved
+returns-clause-moved g c = subst (λ (x : Came g.row.L.Denot). HasMoved x) (sym c.leave_after.ensures) tt

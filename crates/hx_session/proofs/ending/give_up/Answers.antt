@@ -47,4 +47,5 @@ returns g c =
         told = answers_none d d2 c.args.own.status a;
       };
       rooms = c.close_busy.ensures.rooms;
+      moved = tt;
     }

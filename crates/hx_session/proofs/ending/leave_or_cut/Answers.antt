@@ -19,6 +19,7 @@ use Rattle.hx_session.specs.Exchanged.{exchange_now}
 use Rattle.hx_session.proofs.LeavingLemmas.{told_leaves}
 use Rattle.hx_session.specs.Seen.{own_seen}
 use Rattle.hx_session.proofs.OwningLemmas.{none_own, own_here}
+use Rattle.hx_session.specs.Still.{HasMoved}
 use Rattle.hx_session.proofs.ending.leave_or_cut.Goals as goal
 
 pub returns-in-Reading : goal.returns-in-Reading
@@ -34,6 +35,7 @@ returns-in-Reading g c =
       rooms = rooms_none g.S.HasHistory.history (room_of g.S.HasHistory.kept_from g.S.HasHistory.spare) c.args.seats.now;
       own = λ status taken k. absurd (none_own (own_seen (stage_now c.args.stage)) status (ap (λ (x : Stage g.row.L.Denot). own_seen (stage_now x)) c.in-Reading.is) k.1);
       left = λ limits moment. subst (λ (x : Came g.row.L.Denot). CameLeaves limits moment d x) (sym c.leave.ensures) c.requires.fault;
+      moved = subst (λ (x : Came g.row.L.Denot). HasMoved x) (sym c.leave.ensures) tt;
       leaves = λ held e. subst (λ (x : Came g.row.L.Denot). IsEnding x) (sym c.leave.ensures) tt;
     }
 
@@ -50,6 +52,7 @@ returns-in-Choosing g c =
       rooms = rooms_none g.S.HasHistory.history (room_of g.S.HasHistory.kept_from g.S.HasHistory.spare) c.args.seats.now;
       own = λ status taken k. absurd (none_own (own_seen (stage_now c.args.stage)) status (ap (λ (x : Stage g.row.L.Denot). own_seen (stage_now x)) c.in-Choosing.is) k.1);
       left = λ limits moment. subst (λ (x : Came g.row.L.Denot). CameLeaves limits moment d x) (sym c.leave-in-Choosing.ensures) c.requires.fault;
+      moved = subst (λ (x : Came g.row.L.Denot). HasMoved x) (sym c.leave-in-Choosing.ensures) tt;
       leaves = λ held e. subst (λ (x : Came g.row.L.Denot). IsEnding x) (sym c.leave-in-Choosing.ensures) tt;
     }
 
@@ -65,6 +68,7 @@ returns-in-Answering g c =
       rooms = rooms_none g.S.HasHistory.history (room_of g.S.HasHistory.kept_from g.S.HasHistory.spare) c.args.seats.now;
       own = λ status taken k. own_here c.in-Answering.answering.status status d.client.taken_count taken d2 c.leave_answering.result (sym (ap (λ (x : Stage g.row.L.Denot). own_seen (stage_now x)) c.in-Answering.is) ∙ k.1) k.0 c.leave_answering.ensures.own;
       left = λ limits moment. c.leave_answering.ensures.left limits moment c.requires.fault;
+      moved = c.leave_answering.ensures.moved;
       leaves = λ held e. absurd (answering_not _ held (sym (ap stage_now c.in-Answering.is) ∙ e));
     }
 

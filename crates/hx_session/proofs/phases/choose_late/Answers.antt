@@ -13,4 +13,5 @@ returns g c = record {
       goes_answering d d2 (stage_of_choosing c.args.choosing) c.args.own.status c.args.choosing.held seats net c.answer-stage.result c.args.own.waits refl c.requires.between p.set.numbered p.set.around p.set.own
       c.answer-stage.ensures.stage c.answer-stage.ensures.answers (answers_none d d2 c.args.own.status c.answer-stage.ensures.answers);
   left = λ limits moment. tt;
+  moved = tt;
 }

@@ -16,6 +16,8 @@ use Rattle.std.proofs.Common.{◌∙◌}
 use Rattle.hx_session.proofs.PickLemmas.{done_on, done_left}
 use Rattle.hx_session.specs.Leaving.{CameLeaves}
 use Rattle.hx_session.specs.Owning.{CameOwn}
+use Rattle.hx_session.specs.Still.{WhereOn}
+use Rattle.hx_session.specs.Waiting.{StandsStill}
 use Rattle.hx_session.proofs.phases.conclude.Goals as goal
 
 pub returns-in-Ends-clause-routed : goal.returns-in-Ends-clause-routed
@@ -69,3 +71,6 @@ returns-in-Ends-clause-left g c = λ limits moment k. c.give_left.ensures.left l
 
 pub returns-in-Ends-clause-own : goal.returns-in-Ends-clause-own
 returns-in-Ends-clause-own g c = λ status taken k. c.give_left.ensures.own status taken (subst (λ (x : Came g.row.L.Denot). CameOwn status taken (desk_now g.L.Link.state c.args.desk.now) x) c.in-Ends.is k)
+
+pub returns-in-On-clause-still : goal.returns-in-On-clause-still
+returns-in-On-clause-still g c = λ d0 s0 moment k is. subst (λ (x : Came g.row.L.Denot). WhereOn x (λ s w. StandsStill d0 s0 (desk_now g.L.Link.state c.args.desk.now) s moment)) c.in-On.is k

@@ -14,6 +14,8 @@ use Rattle.hx_session.specs.Picking.{Picks}
 use Rattle.hx_session.proofs.PickLemmas.{picks_then}
 use Rattle.hx_session.specs.First.{FreshOn}
 use Rattle.hx_session.specs.Owning.{CameOwn}
+use Rattle.hx_session.specs.Still.{WhereOn}
+use Rattle.hx_session.specs.Waiting.{PausedOrChosen}
 use Rattle.hx_session.proofs.phases.do_phase.Goals as goal
 
 pub returns-clause-told : goal.returns-clause-told
@@ -52,3 +54,8 @@ returns-clause-left g c = λ limits moment k. c.do_stage.ensures.left limits mom
 
 pub returns-clause-own : goal.returns-clause-own
 returns-clause-own g c = λ status taken k. c.do_stage.ensures.own status taken (subst (λ (x : Came g.row.L.Denot). CameOwn status taken (desk_now g.L.Link.state c.args.desk.now) x) c.in-On.is k)
+
+pub returns-clause-still : goal.returns-clause-still
+returns-clause-still g c = λ d0 s0 moment k.
+    let d : DeskNow = desk_now g.L.Link.state c.args.desk.now in
+    c.do_stage.ensures.still d0 s0 moment (subst (λ (x : Came g.row.L.Denot). WhereOn x (λ s w. PausedOrChosen d0 s0 d s moment)) c.in-On.is k)

@@ -34,5 +34,6 @@ returns-in-None g c =
       rooms = rooms_none g.S.HasHistory.history (room_of g.S.HasHistory.kept_from g.S.HasHistory.spare) c.args.seats.now;
       own = λ status taken k. (ap (λ (x : DeskNow). x.client.taken_count) same ∙ k.0, k.1);
       left = tt;
+      still = (same, refl);
       first = λ f one. inl (fresh_desk (g.L.Link.state c.args.desk.now.client) d d2 s same f);
     }

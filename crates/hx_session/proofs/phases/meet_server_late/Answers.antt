@@ -1,6 +1,6 @@
 use Rattle.hx_connecting.specs.Journals.{room_of}
 use Rattle.hx_connecting.proofs.RoomLemmas.{rooms_none}
-use Rattle.std.proofs.Common.{refl, sym, subst, List, map, ap}
+use Rattle.std.proofs.Common.{◌≡◌, refl, sym, subst, List, map, ap}
 use Rattle.hx_pool.specs.SeatView.{History}
 use Rattle.hx_session.specs.declared.stage.Stage.{Stage}
 use Rattle.hx_session.specs.declared.stage.Stage.TheVariants.{Choosing, Answering}
@@ -14,6 +14,7 @@ use Rattle.hx_session.specs.Exchanged.{exchange_now}
 use Rattle.hx_session.proofs.LeavingLemmas.{told_leaves}
 use Rattle.hx_session.specs.Seen.{own_seen}
 use Rattle.hx_session.proofs.OwningLemmas.{none_own}
+use Rattle.hx_session.proofs.PausedLemmas.{moved_where}
 use Rattle.hx_session.proofs.phases.meet_server_late.Goals as goal
 
 pub returns-in-Reading-clause-rooms : goal.returns-in-Reading-clause-rooms
@@ -51,3 +52,18 @@ returns-in-Exchanging-clause-left g c = λ limits moment.
 
 pub returns-in-Exchanging-clause-own : goal.returns-in-Exchanging-clause-own
 returns-in-Exchanging-clause-own g c = λ status taken k. absurd (none_own (own_seen (stage_now c.args.stage)) status (ap (λ (x : Stage g.row.L.Denot). own_seen (stage_now x)) c.in-Exchanging.is) k.1)
+
+pub returns-in-Exchanging-clause-still : goal.returns-in-Exchanging-clause-still
+returns-in-Exchanging-clause-still g c =
+    let d : DeskNow = desk_now g.L.Link.state c.args.desk.now in
+    let d2 : DeskNow = desk_now g.L.Link.state c.end_by_server.new.desk in
+    moved_where c.end_by_server.result (λ s w. (d2 ≡ d) × (s ≡ stage_now c.args.stage)) c.end_by_server.ensures.moved
+
+pub returns-in-Reading-clause-still : goal.returns-in-Reading-clause-still
+returns-in-Reading-clause-still g c = (refl, sym (ap stage_now c.in-Reading.is))
+
+pub returns-in-Choosing-clause-still : goal.returns-in-Choosing-clause-still
+returns-in-Choosing-clause-still g c = (refl, sym (ap stage_now c.in-Choosing.is))
+
+pub returns-in-Answering-clause-still : goal.returns-in-Answering-clause-still
+returns-in-Answering-clause-still g c = (refl, sym (ap stage_now c.in-Answering.is))

@@ -23,6 +23,8 @@ use Rattle.hx_session.proofs.LeavingLemmas.{told_leaves}
 use Rattle.hx_session.specs.Owning.{CameOwn}
 use Rattle.hx_session.specs.Seen.{own_seen}
 use Rattle.hx_session.proofs.OwningLemmas.{none_own}
+use Rattle.hx_session.specs.Still.{WhereOn}
+use Rattle.hx_session.specs.Waiting.{IsUnread}
 use Rattle.hx_session.proofs.phases.move_from_server.Goals as goal
 
 pub returns-clause-routed : goal.returns-clause-routed
@@ -88,3 +90,9 @@ pub returns-clause-own : goal.returns-clause-own
 returns-clause-own g c = λ status taken k.
     let on = subst (λ (x : Came g.row.L.Denot). CameOwn status taken (desk_now g.L.Link.state c.args.desk.now) x) c.in-On.is k in
     absurd (none_own (own_seen (stage_now c.in-On.stage)) status (ap (λ (x : Stage g.row.L.Denot). own_seen (stage_now x)) c.in-Exchanging.is) on.1)
+
+pub returns-clause-still : goal.returns-clause-still
+returns-clause-still g c = λ d0 s0 k.
+    let d : DeskNow = desk_now g.L.Link.state c.args.desk.now in
+    let on = subst (λ (x : Came g.row.L.Denot). WhereOn x (λ s w. IsUnread d0 s0 d s c.args.now.0)) c.in-On.is k in
+    c.read_some.ensures.still d0 s0 (subst (λ (x : Stage g.row.L.Denot). IsUnread d0 s0 d (stage_now x) c.args.now.0) c.in-Exchanging.is on)
