@@ -19,7 +19,8 @@ use Rattle.hx_session.specs.declared.step.Waits.TheVariants as waits
 use Rattle.hx_session.specs.Desks.{DeskNow}
 use Rattle.hx_session.specs.Fits.{SeatsServe, GoesTo, IsGoing, TurnsFit}
 use Rattle.hx_session.specs.Seen.{conn_seen, chosen_seen, unless_held, over_seen, session_seen}
-use Rattle.hx_session.specs.Stages.{StageNow, Reading, Choosing, Exchanging, Answering, Left}
+use Rattle.hx_session.specs.Stages.{StageNow, StandsSo, Reading, Choosing, Exchanging, Answering, Left}
+use Rattle.hx_session.specs.Waiting.{StandsStill}
 use Rattle.hx_session.specs.Standing.{IsSound, IsPlaced, IsRoutedTo, IsDone, KeepsWho}
 use Rattle.hx_session.specs.Doings.{IsSameSession}
 use Rattle.hx_session.specs.Parting.{outcome_of}

@@ -125,7 +125,7 @@ whole_there d e a done =
     ask_whole a.taken a.put d.from.bytes a.head a.kind e.ask.meter 0 a.way here
 
 -- one that goes on, of which nothing is at hand, isn't
-none_there : (d : DeskNow) (e : ExchangeNow) (a : IsAskCarried d e) → e.ask.state ≡ Going → (k : ℕ) → HasWholeRequest (a.taken ++ []) k → ⊥
+pub none_there : (d : DeskNow) (e : ExchangeNow) (a : IsAskCarried d e) → e.ask.state ≡ Going → (k : ℕ) → HasWholeRequest (a.taken ++ []) k → ⊥
 none_there d e a going =
     let part : IsProperPart a.kind a.way.body = subst (λ (x : MeterState). MeterFits a.kind a.way.body x) (sym a.state ∙ going) a.way.used.fits in
     ask_none a.taken a.put [] a.head a.kind e.ask.meter a.way (λ front more is body. going_none a.kind a.way.body front more part (sym (append-nil a.way.body) ∙ is) body)
@@ -179,7 +179,7 @@ ask_passed d e c up idle = λ n ends. ⊎_elim
     here n is = subst (λ (xs : List ℕ). ForwardsRequest xs a.sent) (sym is) (inl (a.head, a.way.body, a.way.begins, sym sent_is ∙ a.way.put_is))
 
 -- where no head stands behind the interim ones, there is no final head
-no_final : (gs hs : List ResponseHead) (bytes rest rest' body : List ℕ) (g : ResponseHead) → BeginsInterims bytes gs rest → HasNoResponse rest → BeginsInterims bytes hs rest' → ReadsResponse rest' g body → IsFinal g → ⊥
+pub no_final : (gs hs : List ResponseHead) (bytes rest rest' body : List ℕ) (g : ResponseHead) → BeginsInterims bytes gs rest → HasNoResponse rest → BeginsInterims bytes hs rest' → ReadsResponse rest' g body → IsFinal g → ⊥
 no_final [] [] bytes rest rest' body g x none y reads final = none g body (subst (λ (xs : List ℕ). ReadsResponse xs g body) (sym y ∙ x) reads)
 no_final [] (k ∷ hs) bytes rest rest' body g x none (m, q, i, y) reads final = none k m (subst (λ (xs : List ℕ). ReadsResponse xs k m) x q)
 no_final (k ∷ gs) [] bytes rest rest' body g (m, q, i, x) none y reads final =
@@ -189,7 +189,7 @@ no_final (k ∷ gs) (l ∷ hs) bytes rest rest' body g (m, q, i, x) none (n, q',
     no_final gs hs m rest rest' body g x none (subst (λ (xs : List ℕ). BeginsInterims xs hs rest') (sym u.1) y) reads final
 
 -- so no answer is whole
-no_whole : (m : MethodKind) (gs : List ResponseHead) (bytes rest : List ℕ) (n : ℕ) → BeginsInterims bytes gs rest → HasNoResponse rest → HasWholeAnswer m bytes n → ⊥
+pub no_whole : (m : MethodKind) (gs : List ResponseHead) (bytes rest : List ℕ) (n : ℕ) → BeginsInterims bytes gs rest → HasNoResponse rest → HasWholeAnswer m bytes n → ⊥
 no_whole m gs bytes rest n begins none (inside, (g, kind, x, own)) =
     let back = take-append-drop n bytes in
     no_final gs x.interims bytes rest (x.rest ++ drop n bytes) (x.body ++ drop n bytes) g begins none

@@ -91,10 +91,10 @@ was_link s0 e0 e is k = (subst (λ (x : StageNow). StageStill x (Exchanging e)) 
 
 -- one write to the server, or none
 pub sends_paused : (d0 d d' : DeskNow) (s0 : StageNow) (e e' : ExchangeNow) (now : ℕ) (m : Move) → IsNone m → SendsNone d e d' e' now m → IsGiven d0 s0 d (Exchanging e) now → IsPaused d0 s0 d' (Exchanging e') now
-sends_paused d0 d d' s0 e e' now Idle none (desk, (same, up)) given =
+sends_paused d0 d d' s0 e e' now Idle none (desk, same, up) given =
     subst (λ (x : DeskNow). IsPaused d0 s0 x (Exchanging e') now) (sym desk)
     (subst (λ (x : ExchangeNow). IsPaused d0 s0 d (Exchanging x) now) (sym same) (record { given = given; sent = λ a b was is. inl up }))
-sends_paused d0 d d' s0 e e' now Waits none (desk, (same, writes)) given =
+sends_paused d0 d d' s0 e e' now Waits none (desk, same, writes) given =
     subst (λ (x : DeskNow). IsPaused d0 s0 x (Exchanging e') now) (sym desk)
     (record {
       given = record {
@@ -216,13 +216,13 @@ still_sent d a e f now is (inl up) = inl up
 still_sent d a e f now is (inr w) = inr (link_sent a.busy.link e.busy.link f.busy.link now is w)
 
 pub server_paused : (d0 d d' : DeskNow) (s0 : StageNow) (e e' : ExchangeNow) (now : ℕ) (m : Move) → IsNone m → ReadsNone d e d' e' now m → IsUnread d0 s0 d (Exchanging e) now → StandsStill d0 s0 d' (Exchanging e') now
-server_paused d0 d d' s0 e e' now Idle none (desk, (same, why)) unread =
+server_paused d0 d d' s0 e e' now Idle none (desk, same, why) unread =
     subst (λ (x : DeskNow). StandsStill d0 s0 x (Exchanging e') now) (sym desk)
     (subst (λ (x : ExchangeNow). StandsStill d0 s0 d (Exchanging x) now) (sym same) (record {
       unread = unread;
       server = λ a b was is. subst (λ (x : ExchangeNow). CannotReadServer d a x now) (exchange_is e b is) (⊎_elim (λ z. inl z) (λ z. inr (inl z)) why);
     }))
-server_paused d0 d d' s0 e e' now Waits none (desk, (same, reads)) unread =
+server_paused d0 d d' s0 e e' now Waits none (desk, same, reads) unread =
     let p = unread.idle.paused in
     let wait : (l : LinkState) → HasOnlyWaited l e.busy.link → HasOnlyWaited l e'.busy.link × ReadWaited l e'.busy.link now = λ l k. reads_wait l e.busy.link e'.busy.link now k reads.0 reads.1 in
     subst (λ (x : DeskNow). StandsStill d0 s0 x (Exchanging e') now) (sym desk)

@@ -8,8 +8,9 @@ use Rattle.hx_connecting.specs.Sessions.{SessionNow, Exchanging}
 use Rattle.hx_connecting.specs.Touches.{Touch, Opened, Ends}
 use Rattle.hx_base.specs.declared.numbers.ServerNo.{ServerNo}
 use Rattle.hx_connecting.specs.Choosing.{AllDrain, IsChosen, servers_of, back_no}
-use Rattle.hx_session.specs.Causes.{Limits, ServerEvent, Unserved, all_drain, no_numbers, no_dial, Decides, CutsFor, LeavesFor}
+use Rattle.hx_session.specs.Causes.{Limits, Buries, Unserved, all_drain, no_numbers, no_dial, Decides, CutsFor, LeavesFor}
 use Rattle.hx_conn.specs.Conns.{BusyNow}
+use Rattle.hx_link.specs.Told.{LinkState}
 use Rattle.hx_config.specs.declared.parts.Back.{Back}
 use Rattle.hx_pool.specs.History.{opens_of}
 use Rattle.hx_pool.specs.Opening.{open_limit}
@@ -49,9 +50,13 @@ KeepsOwn s s' served =
     (s'.client.taken_count ≡ s.client.taken_count)
     × ((s'.own ≡ Some status) ⊎ ((r : Served) × (served ≡ Some r) × (r.kind ≡ kind.Own status))))
 
--- the causes of what a step at a moment decided
-pub record StepsForCause (config : Meaning) (limits : Limits) (d : Doing) (now : ℕ) (chose : Option ServerNo) (x : Option Touch) (e : ServerEvent) : Type 0 where
-  pub own : DecidesNew (Decides limits d.old e now (Lacks config d chose x)) d.old d.new d.served
-  pub cut : CutsNew (λ b why. CutsFor limits d.old d.new e b now why) d.old d.served
+-- what a step at a moment decided has its cause
+abbrev pub CausesCut : Limits → Doing → ℕ → BusyNow → CutCause → Type 0
+CausesCut limits d now b why =
+    (l : LinkState) × Buries b d.before.net d.after.net l × CutsFor limits d.old d.new.client b l now why
+
+pub record StepsForCause (config : Meaning) (limits : Limits) (d : Doing) (now : ℕ) (chose : Option ServerNo) (x : Option Touch) : Type 0 where
+  pub own : DecidesNew (Decides limits d.old d.before.net d.after.net now (Lacks config d chose x)) d.old d.new d.served
+  pub cut : CutsNew (CausesCut limits d now) d.old d.served
   pub left : IfSome d.left (λ l. LeavesFor limits d.old d.new d.served now l.cause)
   pub keeps : KeepsOwn d.old d.new d.served

@@ -1,6 +1,6 @@
 //! The parts of a step, in their order.
 
-ghost use Rattle.std.specs.Prelude.{◌≡◌, ◌⊎◌, ◌↔◌, ◌<◌, ◌≤◌, ℕ, IsTrue, IfSome, List, Option, length, map, false, None, Some};
+ghost use Rattle.std.specs.Prelude.{◌≡◌, ◌⊎◌, ◌↔◌, ◌<◌, ◌≤◌, ℕ, IsTrue, IfSome, List, Option, length, map, true, false, None, Some};
 ghost use Rattle.hx_base.specs.declared.numbers.ServerNo.{ServerNo};
 ghost use Rattle.hx_config.specs.declared.parts.Back.{Back};
 ghost use Rattle.hx_config.specs.Limits.{all_servers};
@@ -702,6 +702,7 @@ fn give_left<L: Link, S: Seat<Rested<L>>, N: Net<L = L>>(
         → IfSome result.left (λ l. LeavesBy limits moment (desk_now L.state desk.new) l.cause) }
     ensures own { (status taken : ℕ) → CameOwn status taken (desk_now L.state desk.old) (Ends ending)
         → DoneOwn status taken (desk_now L.state desk.new) (stage_now result.stage) result.served }
+    ensures moved { result.moved ≡ true }
 {
     let Ending {
         cause,

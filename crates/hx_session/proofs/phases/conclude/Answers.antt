@@ -1,4 +1,4 @@
-use Rattle.std.proofs.Common.{sym, subst}
+use Rattle.std.proofs.Common.{◌≡◌, true, false, sym, subst}
 use Rattle.hx_session.specs.Stages.{StageNow}
 use Rattle.hx_session.specs.Standing.{IsRoutedTo}
 use Rattle.std.proofs.Common.{List, map}
@@ -19,6 +19,9 @@ use Rattle.hx_session.specs.Owning.{CameOwn}
 use Rattle.hx_session.specs.Still.{WhereOn}
 use Rattle.hx_session.specs.Waiting.{StandsStill}
 use Rattle.hx_session.proofs.phases.conclude.Goals as goal
+
+true_false : true ≡ false → ⊥
+true_false e = cc
 
 pub returns-in-Ends-clause-routed : goal.returns-in-Ends-clause-routed
 returns-in-Ends-clause-routed g c = λ back r. subst (λ (x : StageNow). IsRoutedTo back x) (sym c.give_left.ensures.stage) (record { to_conn = tt; to_chosen = tt })
@@ -74,3 +77,6 @@ returns-in-Ends-clause-own g c = λ status taken k. c.give_left.ensures.own stat
 
 pub returns-in-On-clause-still : goal.returns-in-On-clause-still
 returns-in-On-clause-still g c = λ d0 s0 moment k is. subst (λ (x : Came g.row.L.Denot). WhereOn x (λ s w. StandsStill d0 s0 (desk_now g.L.Link.state c.args.desk.now) s moment)) c.in-On.is k
+
+pub returns-in-Ends-clause-still : goal.returns-in-Ends-clause-still
+returns-in-Ends-clause-still g c = λ d0 s0 moment k is. absurd (true_false (sym c.give_left.ensures.moved ∙ is))
