@@ -11,12 +11,17 @@ use Rattle.hx_record.specs.declared.served.Kind.TheVariants as kind
 use Rattle.hx_record.specs.declared.served.Served.{Served}
 use Rattle.hx_session.specs.declared.stage.Came.{Came}
 use Rattle.hx_session.specs.declared.stage.Came.TheVariants.{On, Moved, Ends}
-use Rattle.hx_session.specs.Causes.{Buries, CutsFor, Decides, Limits}
+use Rattle.hx_session.specs.Causes.{Buries, CutsFor, Decides, HasCome, Limits}
+use Rattle.hx_session.specs.declared.deadline.Late.{Late}
+use Rattle.hx_session.specs.declared.deadline.Late.TheVariants.{Client, Connect, Server}
+use Rattle.hx_session.specs.declared.moves.Move.{Move}
+use Rattle.hx_session.specs.declared.moves.Move.TheVariants.{Idle, Bytes, Waits, Ended, Failed}
+use Rattle.hx_conn.specs.Conns.{IsBusy, RestedNow}
 use Rattle.hx_session.specs.Desks.{DeskNow}
 use Rattle.hx_session.specs.Exchanged.{ExchangeNow}
 use Rattle.hx_session.specs.Moves.{with_client}
 use Rattle.hx_session.specs.Seen.{conn_seen, own_seen, session_seen}
-use Rattle.hx_session.specs.Stages.{StageNow, Exchanging, stage_now}
+use Rattle.hx_session.specs.Stages.{StageNow, Reading, Exchanging, stage_now}
 
 -- a link of which no byte was moved: it had to wait, or failed
 pub record MovesNoByte (a b : LinkState) : Type 0 where
@@ -66,7 +71,9 @@ CameDecides limits now d0 s0 net0 d (On stage w) net = IsSoFar d0 s0 net0 d (sta
 CameDecides limits now d0 s0 net0 d (Moved stage w served) net =
     (own_seen s0 ≡ None → (status : ℕ) → own_seen (stage_now stage) ≡ Some status → OwnAnswers limits now d0 s0 net0 net status)
     × CutsRecord limits now d0 s0 net0 d.client net served
-CameDecides limits now d0 s0 net0 d (Ends e) net = CutsRecord limits now d0 s0 net0 d.client net e.served
+CameDecides limits now d0 s0 net0 d (Ends e) net =
+    CutsRecord limits now d0 s0 net0 d.client net e.served
+    × ((r : Served) (c : Carried) (why : CutCause) → e.served ≡ Some r → r.kind ≡ kind.Cut c why → e.held ≡ None)
 
 -- and a whole step
 pub record DoneDecides (limits : Limits) (now : ℕ) (d0 : DeskNow) (s0 : StageNow) (net0 : NetState) (d : DeskNow) (s : StageNow) (net : NetState) (served : Option Served) : Type 0 where
@@ -81,10 +88,10 @@ loose l = record l { on_loop = None }
 abbrev pub EndsAs : {X : Type 0} → DeskNow → BusyNow → NetState → (ℕ → Type 0) → (CutCause → Type 0) → DeskNow → Came X → NetState → Type 0
 EndsAs d b net Own Cuts d' (On stage w) net' = ⊥
 EndsAs d b net Own Cuts d' (Moved stage w served) net' =
-    ((status : ℕ) × (own_seen (stage_now stage) ≡ Some status) × Own status) × (served ≡ None) × Buries b net net' (loose b.link)
+    ((status : ℕ) × (own_seen (stage_now stage) ≡ Some status) × Own status) × (served ≡ None) × IsBusy b × Buries b net net' (loose b.link)
 EndsAs d b net Own Cuts d' (Ends e) net' =
     ((r : Served) × (c : Carried) × (why : CutCause) × (e.served ≡ Some r) × (r.kind ≡ kind.Cut c why) × Cuts why)
-    × (d'.client ≡ d.client) × Buries b net net' (loose b.link)
+    × (e.held ≡ None) × (d'.client ≡ d.client) × IsBusy b × Buries b net net' (loose b.link)
 
 -- something was given for the request, or nothing yet
 abbrev pub Given : DeskNow → Type 0
@@ -105,9 +112,62 @@ IsHeard d b = (d.number ≤ 1) ⊎ (b.uses ≡ 0) ⊎ (b.exchange.taken_from < b
 
 -- an event of the server's side: an own answer of that status, or a cut for that cause
 abbrev pub EndsByServer : {X : Type 0} → DeskNow → BusyNow → NetState → CutCause → ℕ → DeskNow → Came X → NetState → Type 0
-EndsByServer d b net why status d' came net' = EndsAs d b net (λ k. k ≡ status) (λ w. (w ≡ why) × Given d) d' came net'
+EndsByServer d b net why status d' came net' = EndsAs d b net (λ k. (k ≡ status) × Ungiven d) (λ w. (w ≡ why) × Given d) d' came net'
 
 -- its link ended or failed: the same, or the connection closes without an answer
 abbrev pub LosesServer : {X : Type 0} → DeskNow → BusyNow → NetState → CutCause → ℕ → DeskNow → Came X → NetState → Type 0
 LosesServer d b net why status d' came net' =
     EndsAs d b net (λ k. (k ≡ status) × IsHeard d b) (λ w. ((w ≡ why) × Given d) ⊎ ((w ≡ cut.Silent) × IsSilent d b)) d' came net'
+
+-- a part that cuts an exchange off for that cause, or gives it up for an own answer of that status
+abbrev pub CutsAs : {X : Type 0} → DeskNow → BusyNow → NetState → CutCause → DeskNow → Came X → NetState → Type 0
+CutsAs d b net why d' came net' = EndsAs d b net (λ k. ⊥) (λ w. w ≡ why) d' came net'
+
+abbrev pub GivesUp : {X : Type 0} → DeskNow → BusyNow → NetState → ℕ → DeskNow → Came X → NetState → Type 0
+GivesUp d b net status d' came net' = EndsAs d b net (λ k. k ≡ status) (λ w. ⊥) d' came net'
+
+-- a part after which no own answer is decided, and no record given
+abbrev pub PassesOn : {X : Type 0} → Came X → Type 0
+PassesOn (On stage w) = ⊤
+PassesOn (Moved stage w served) = (own_seen (stage_now stage) ≡ None) × (served ≡ None)
+PassesOn (Ends e) = ⊥
+
+-- or one that gives that record
+abbrev pub HasPassed : {X : Type 0} → Came X → Served → Type 0
+HasPassed (On stage w) r = ⊥
+HasPassed (Moved stage w served) r = (own_seen (stage_now stage) ≡ None) × (served ≡ Some r)
+HasPassed (Ends e) r = e.served ≡ Some r
+
+-- an own answer that is decided there has that status
+abbrev pub OwnIs : ℕ → StageNow → Type 0
+OwnIs k s = (status : ℕ) → own_seen s ≡ Some status → status ≡ k
+
+-- the client's deadline has come, or nothing of a request is there
+abbrev pub ClientComes : Limits → ℕ → DeskNow → StageNow → Type 0
+ClientComes limits now d s =
+    HasCome limits.client d.since.0 now ⊎ ((d.from.bytes ≡ []) × ((held : Option RestedNow) × (s ≡ Reading held)))
+
+-- a deadline of the server's side has come, by the status of its own answer
+abbrev pub ServerLate : Limits → ℕ → DeskNow → ℕ → Type 0
+ServerLate limits now d status =
+    ((status ≡ 503) × HasCome limits.connect d.since.0 now) ⊎ ((status ≡ 504) × HasCome limits.server d.since.0 now)
+
+-- the own answer of a deadline
+abbrev pub status_for : Late → ℕ
+status_for Client = 408
+status_for Connect = 503
+status_for Server = 504
+
+-- a call that moved no byte
+abbrev pub IsQuiet : Move → Type 0
+IsQuiet Idle = ⊤
+IsQuiet Bytes = ⊥
+IsQuiet Waits = ⊤
+IsQuiet Ended = ⊥
+IsQuiet Failed = ⊤
+
+-- where the session leaves with a cut it holds nothing
+abbrev pub GivesOwnOnly : {X : Type 0} → Came X → Type 0
+GivesOwnOnly (On stage w) = ⊤
+GivesOwnOnly (Moved stage w served) = ⊤
+GivesOwnOnly (Ends e) = (r : Served) (c : Carried) (why : CutCause) → e.served ≡ Some r → r.kind ≡ kind.Cut c why → e.held ≡ None

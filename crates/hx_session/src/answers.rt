@@ -1,6 +1,6 @@
 //! What a step does in an exchange.
 
-ghost use Rattle.std.specs.Prelude.{◌≡◌, ◌⊎◌, ◌↔◌, ◌+◌, ◌≤◌, ◌||◌, ◌&&◌, not, IsTrue, false, List, map, Option, Some, None};
+ghost use Rattle.std.specs.Prelude.{◌≡◌, ℕ, ◌⊎◌, ◌↔◌, ◌+◌, ◌≤◌, ◌||◌, ◌&&◌, not, IsTrue, false, List, map, Option, Some, None};
 ghost use Rattle.httparse.specs.Grammar as grammar;
 ghost use Rattle.hx_config.specs.declared.parts.Back.{Back};
 ghost use Rattle.hx_link.specs.Links.{LinkFinishes};
@@ -30,6 +30,8 @@ ghost use Rattle.hx_session.specs.Parting.{MayTouch, CountsOn, RestsSo, came_con
 ghost use Rattle.hx_session.specs.Standing.{IsPlaced, CamePlaced, IsRoutedTo, CameRouted, KeepsDesk, KeepsAsk, IsSameConn, KeepsPlace, Goes};
 ghost use Rattle.hx_session.specs.Telling.{IsStillTold, GivesPassed, CameTells};
 ghost use Rattle.hx_session.specs.Still.{HasMoved};
+ghost use Rattle.hx_session.specs.Causes.{Limits};
+ghost use Rattle.hx_session.specs.Decided.{CameDecides, HasPassed, PassesOn};
 ghost use Rattle.hx_session.specs.Waiting.{AskIdle, LeavesNothing, StaysOrMoves};
 
 use crate::cuts::look_down;
@@ -346,6 +348,7 @@ fn goes_on<L: Link>(exchange: Exchange<L>, waits: Waiting, moved: bool) -> Came<
     ensures told { (d0 d : DeskNow) (s0 : StageNow) → IsStillTold d0 s0 d (Exchanging (exchange_now exchange))
         → CameTells d0 s0 d result }
     ensures still { StaysOrMoves (exchange_now exchange) moved result }
+    ensures passes { PassesOn result }
 {
     let stage = Stage::Exchanging(exchange);
     if moved {
@@ -359,6 +362,7 @@ fn goes_on<L: Link>(exchange: Exchange<L>, waits: Waiting, moved: bool) -> Came<
 fn bad_gateway(cause: CutCause, now: Millis, waits: Waiting) -> (CutCause, Own)
     ensures known { HasOwnText result.1.status }
     ensures same { result.0 ≡ cause }
+    ensures status { result.1.status ≡ 502 }
 {
     (
         cause,
@@ -385,6 +389,8 @@ fn look_for_head<L: Link, S: Seat<Rested<L>>, N: Net<L = L>>(
         (desk_now L.state desk.new) result (map S.history seats.new) (N.state net.new) }
     ensures still { AskIdle (desk_now L.state desk.old) (exchange_now exchange)
         → LeavesNothing (desk_now L.state desk.old) (Exchanging (exchange_now exchange)) (desk_now L.state desk.new) result }
+    ensures decides { (limits : Limits) (moment : ℕ) → CameDecides limits moment (desk_now L.state desk.old) (Exchanging (exchange_now exchange))
+        (N.state net.old) (desk_now L.state desk.new) result (N.state net.new) }
 {
     match look_down(exchange.busy.method(), &mut desk.down) {
         AnswerLook::Interim(head) => {
@@ -478,6 +484,8 @@ fn finish<L: Link, S: Seat<Rested<L>>, N: Net<L = L>>(
     ensures goes { Goes (desk_now L.state desk.old) (Exchanging (exchange_now exchange)) (map S.history seats.old) (N.state net.old)
         (desk_now L.state desk.new) result (map S.history seats.new) (N.state net.new) }
     ensures moved { HasMoved result }
+    ensures decides { (limits : Limits) (moment : ℕ) → CameDecides limits moment (desk_now L.state desk.old) (Exchanging (exchange_now exchange))
+        (N.state net.old) (desk_now L.state desk.new) result (N.state net.new) }
 {
     if exchange.is_early() {
         return cut(desk, exchange, seats, net, CutCause::Early);
@@ -513,6 +521,7 @@ fn after_pass<L: Link>(
         → GivesPassed d (desk_now L.state desk.old) e served → ((why : Cause) → IsTold d.client e.busy.link why served)
         → CameTells d (Exchanging e) (desk_now L.state desk.new) result }
     ensures moved { HasMoved result }
+    ensures passed { HasPassed result served }
 {
     if closing {
         finish_client(&mut desk.client);
@@ -530,11 +539,14 @@ fn refuse_ask<L: Link, S: Seat<Rested<L>>, N: Net<L = L>>(
     net: &mut N,
     at: At,
 ) -> Came<L>
+    requires bad { exchange.ask.state ≡ Bad }
     requires placed { IsPlaced (desk_now L.state desk.old) (Exchanging (exchange_now exchange)) (map S.history seats.old) }
     ensures rooms { RoomsStay S.history (room_of S.kept_from S.spare) seats.old seats.new }
     ensures goes { Goes (desk_now L.state desk.old) (Exchanging (exchange_now exchange)) (map S.history seats.old) (N.state net.old)
         (desk_now L.state desk.new) result (map S.history seats.new) (N.state net.new) }
     ensures moved { HasMoved result }
+    ensures decides { (limits : Limits) (moment : ℕ) → CameDecides limits moment (desk_now L.state desk.old) (Exchanging (exchange_now exchange))
+        (N.state net.old) (desk_now L.state desk.new) result (N.state net.new) }
 {
     let own = Own {
         status: 400,
@@ -557,6 +569,8 @@ pub(crate) fn go_on<L: Link, S: Seat<Rested<L>>, N: Net<L = L>>(
     ensures goes { Goes (desk_now L.state desk.old) (Exchanging (exchange_now exchange)) (map S.history seats.old) (N.state net.old)
         (desk_now L.state desk.new) result (map S.history seats.new) (N.state net.new) }
     ensures still { LeavesNothing (desk_now L.state desk.old) (Exchanging (exchange_now exchange)) (desk_now L.state desk.new) result }
+    ensures decides { (limits : Limits) (moment : ℕ) → CameDecides limits moment (desk_now L.state desk.old) (Exchanging (exchange_now exchange))
+        (N.state net.old) (desk_now L.state desk.new) result (N.state net.new) }
 {
     match next_of(desk, &exchange) {
         Do::BadAsk => refuse_ask(desk, exchange, seats, net, at),

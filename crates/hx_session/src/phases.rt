@@ -27,6 +27,7 @@ ghost use Rattle.hx_session.specs.Picking.{Picks, PicksTo, PicksSo, PicksAll};
 ghost use Rattle.hx_session.specs.Seen.{conn_seen, chosen_seen};
 ghost use Rattle.hx_session.specs.Stages.{StageNow, Left as Gone, Reading, Exchanging, StandsSo, IsBetween, stage_now, stage_of_answering, stage_of_choosing};
 ghost use Rattle.hx_session.specs.Standing.{IsCounted, IsPlaced, CamePlaced, IsRoutedTo, CameRouted, KeepsPlace, KeepsOver, Goes, IsDone, IsGone, IsLeaving, IsSet};
+ghost use Rattle.hx_session.specs.Decided.{CameDecides, ClientComes, DoneDecides, IsQuiet, IsSoFar, ServerLate, status_for};
 ghost use Rattle.hx_session.specs.Still.{IsStill, HasMoved, StaysThere, WantsClient, WhereOn};
 ghost use Rattle.hx_session.specs.Waiting.{IsGiven, IsIdle, IsNone, IsPaused, IsUnread, LeavesNothing, PausedOrChosen, StandsStill};
 ghost use Rattle.hx_session.specs.Telling.{MoveTells, CameTells, TellsEnd, DoneTells};
@@ -81,6 +82,8 @@ fn cut_late<L: Link, S: Seat<Rested<L>>, N: Net<L = L>>(
     ensures goes { Goes (desk_now L.state desk.old) (Exchanging (exchange_now exchange)) (map S.history seats.old) (N.state net.old)
         (desk_now L.state desk.new) result (map S.history seats.new) (N.state net.new) }
     ensures moved { HasMoved result }
+    ensures decides { (limits : Limits) (moment : ℕ) → HasCome limits.client desk.old.since.0 moment → own.status ≡ 408
+        → CameDecides limits moment (desk_now L.state desk.old) (Exchanging (exchange_now exchange)) (N.state net.old) (desk_now L.state desk.new) result (N.state net.new) }
 {
     if desk.to.len() > 0 {
         return cut(desk, exchange, seats, net, CutCause::Client);
@@ -97,6 +100,9 @@ fn read_late<L: Link>(desk: &mut Desk<L>, held: Option<Rested<L>>, own: Own) -> 
     ensures left { (limits : Limits) (moment : ℕ) → LeavesBy limits moment (desk_now L.state desk.old) left_cause.Idle
         → CameLeaves limits moment (desk_now L.state desk.new) result }
     ensures moved { HasMoved result }
+    ensures decides { (limits : Limits) (moment : ℕ) (net : NetState)
+        → ClientComes limits moment (desk_now L.state desk.old) (Reading held) → own.status ≡ 408
+        → CameDecides limits moment (desk_now L.state desk.old) (Reading held) net (desk_now L.state desk.new) result net }
 {
     if desk.ask_from < desk.taken {
         let stage = answer(desk, own.status, held, own.now);
@@ -114,6 +120,9 @@ fn choose_late<L: Link>(desk: &mut Desk<L>, choosing: Choosing<L>, own: Own) -> 
         → Goes (desk_now L.state desk.old) (stage_of_choosing choosing) seats net (desk_now L.state desk.new) result seats net }
     ensures left { (limits : Limits) (moment : ℕ) → CameLeaves limits moment (desk_now L.state desk.new) result }
     ensures moved { HasMoved result }
+    ensures decides { (limits : Limits) (moment : ℕ) (net : NetState)
+        → HasCome limits.client desk.old.since.0 moment → own.status ≡ 408
+        → CameDecides limits moment (desk_now L.state desk.old) (stage_of_choosing choosing) net (desk_now L.state desk.new) result net }
 {
     let Choosing { held, .. } = choosing;
     let stage = answer(desk, own.status, held, own.now);
@@ -138,6 +147,10 @@ fn meet_client_late<L: Link, S: Seat<Rested<L>>, N: Net<L = L>>(
     ensures own { (status taken : ℕ) → OwnAt status taken (desk_now L.state desk.old) (stage_now stage)
         → CameOwn status taken (desk_now L.state desk.new) result }
     ensures still { StaysThere (desk_now L.state desk.old) (stage_now stage) (desk_now L.state desk.new) result }
+    ensures decides { (limits : Limits) (moment : ℕ)
+        → ClientComes limits moment (desk_now L.state desk.old) (stage_now stage) → own.status ≡ 408
+        → CameDecides limits moment (desk_now L.state desk.old) (stage_now stage)
+        (N.state net.old) (desk_now L.state desk.new) result (N.state net.new) }
 {
     match stage {
         Stage::Exchanging(exchange) => cut_late(desk, exchange, seats, net, own),
@@ -150,7 +163,8 @@ fn meet_client_late<L: Link, S: Seat<Rested<L>>, N: Net<L = L>>(
 
 /// The own answer of a deadline.
 fn own_of(late: Late, now: Millis) -> Own
-    ensures { HasOwnText result.status }
+    ensures known { HasOwnText result.status }
+    ensures status { result.status ≡ status_for late }
 {
     let status = match late {
         Late::Client => 408,
@@ -181,6 +195,10 @@ fn meet_server_late<L: Link, S: Seat<Rested<L>>, N: Net<L = L>>(
     ensures own { (status taken : ℕ) → OwnAt status taken (desk_now L.state desk.old) (stage_now stage)
         → CameOwn status taken (desk_now L.state desk.new) result }
     ensures still { StaysThere (desk_now L.state desk.old) (stage_now stage) (desk_now L.state desk.new) result }
+    ensures decides { (limits : Limits) (moment : ℕ)
+        → ServerLate limits moment (desk_now L.state desk.old) own.status
+        → CameDecides limits moment (desk_now L.state desk.old) (stage_now stage)
+        (N.state net.old) (desk_now L.state desk.new) result (N.state net.new) }
 {
     match stage {
         Stage::Exchanging(exchange) => end_by_server(
@@ -217,6 +235,8 @@ fn meet_deadline<L: Link, S: Seat<Rested<L>>, N: Net<L = L>>(
     ensures own { (status taken : ℕ) → OwnAt status taken (desk_now L.state desk.old) (stage_now stage)
         → CameOwn status taken (desk_now L.state desk.new) result }
     ensures still { StaysThere (desk_now L.state desk.old) (stage_now stage) (desk_now L.state desk.new) result }
+    ensures decides { CameDecides (limits_with (Some scene.entry.front.now) (Some scene.entry.back.now)) scene.entry.now.0
+        (desk_now L.state desk.old) (stage_now stage) (N.state net.old) (desk_now L.state desk.new) result (N.state net.new) }
 {
     match find_late(desk, &stage, scene.front, scene.back, scene.now) {
         None => Came::On(stage, Waiting::Nothing),
@@ -249,6 +269,8 @@ fn give_some<L: Link, S: Seat<Rested<L>>, N: Net<L = L>>(
         → CameOwn status taken (desk_now L.state desk.new) result }
     ensures still { (d0 : DeskNow) (s0 : StageNow) → IsStill d0 s0 (desk_now L.state desk.old) (stage_now stage)
         → WhereOn result (λ s w. IsGiven d0 s0 (desk_now L.state desk.new) s at.now.0) }
+    ensures decides { (limits : Limits) (moment : ℕ) → CameDecides limits moment (desk_now L.state desk.old) (stage_now stage)
+        (N.state net.old) (desk_now L.state desk.new) result (N.state net.new) }
 {
     match give(desk, at.now) {
         Move::Bytes => Came::Moved(stage, at.waits, None),
@@ -287,6 +309,9 @@ fn move_to_client<L: Link, S: Seat<Rested<L>>, N: Net<L = L>>(
     ensures still { (d0 : DeskNow) (s0 : StageNow)
         → WhereOn came (λ s w. IsStill d0 s0 (desk_now L.state desk.old) s)
         → WhereOn result (λ s w. IsGiven d0 s0 (desk_now L.state desk.new) s now.0) }
+    ensures decides { (limits : Limits) (moment : ℕ) (d0 : DeskNow) (s0 : StageNow) (net0 : NetState)
+        → CameDecides limits moment d0 s0 net0 (desk_now L.state desk.old) came (N.state net.old)
+        → CameDecides limits moment d0 s0 net0 (desk_now L.state desk.new) result (N.state net.new) }
 {
     let Came::On(stage, waits) = came else {
         return came;
@@ -303,6 +328,7 @@ fn after_server_move<L: Link, S: Seat<Rested<L>>, N: Net<L = L>>(
     call: (Move, At),
 ) -> Came<L>
     requires good { (call.0 ≡ Failed → ⊥) → exchange.busy.exchange.failed ≡ false }
+    requires failed { call.0 ≡ Failed → exchange.busy.exchange.failed ≡ true }
     requires set { IsSet (desk_now L.state desk.old) (Exchanging (exchange_now exchange)) (map S.history seats.old) }
     ensures rooms { RoomsStay S.history (room_of S.kept_from S.spare) seats.old seats.new }
     ensures goes { Goes (desk_now L.state desk.old) (Exchanging (exchange_now exchange)) (map S.history seats.old) (N.state net.old)
@@ -313,6 +339,9 @@ fn after_server_move<L: Link, S: Seat<Rested<L>>, N: Net<L = L>>(
         → CameKeeps result e.busy exchange.busy }
     ensures still { WhereOn result (λ s w. (desk_now L.state desk.new ≡ desk_now L.state desk.old)
         × (s ≡ Exchanging (exchange_now exchange)) × IsNone call.0) }
+    ensures decides { (limits : Limits) (moment : ℕ) (d : DeskNow) (e : ExchangeNow)
+        → (IsQuiet call.0 → IsSoFar d (Exchanging e) (N.state net.old) (desk_now L.state desk.old) (Exchanging (exchange_now exchange)) (N.state net.old))
+        → CameDecides limits moment d (Exchanging e) (N.state net.old) (desk_now L.state desk.new) result (N.state net.new) }
 {
     let (moved, at) = call;
     match moved {
@@ -346,6 +375,8 @@ fn send_some<L: Link, S: Seat<Rested<L>>, N: Net<L = L>>(
     ensures still { (d0 : DeskNow) (s0 : StageNow)
         → IsGiven d0 s0 (desk_now L.state desk.old) (Exchanging (exchange_now exchange)) at.now.0
         → WhereOn result (λ s w. IsPaused d0 s0 (desk_now L.state desk.new) s at.now.0) }
+    ensures decides { (limits : Limits) (moment : ℕ)
+        → CameDecides limits moment (desk_now L.state desk.old) (Exchanging (exchange_now exchange)) (N.state net.old) (desk_now L.state desk.new) result (N.state net.new) }
 {
     let sent = send(desk, &mut exchange, at.now);
     after_server_move(desk, exchange, seats, net, (sent, at))
@@ -379,6 +410,9 @@ fn move_to_server<L: Link, S: Seat<Rested<L>>, N: Net<L = L>>(
     ensures still { (d0 : DeskNow) (s0 : StageNow)
         → WhereOn came (λ s w. IsGiven d0 s0 (desk_now L.state desk.old) s now.0)
         → WhereOn result (λ s w. IsPaused d0 s0 (desk_now L.state desk.new) s now.0) }
+    ensures decides { (limits : Limits) (moment : ℕ) (d0 : DeskNow) (s0 : StageNow) (net0 : NetState)
+        → CameDecides limits moment d0 s0 net0 (desk_now L.state desk.old) came (N.state net.old)
+        → CameDecides limits moment d0 s0 net0 (desk_now L.state desk.new) result (N.state net.new) }
 {
     let Came::On(stage, waits) = came else {
         return came;
@@ -414,6 +448,8 @@ fn take_turn<L: Link, S: Seat<Rested<L>>>(
     ensures own { (status taken : ℕ) (d : DeskNow) → CameOwn status taken d came → CameOwn status taken d result }
     ensures still { (d0 d : DeskNow) (s0 : StageNow) (moment : ℕ) → WhereOn came (λ s w. IsPaused d0 s0 d s moment)
         → WhereOn result (λ s w. PausedOrChosen d0 s0 d s moment) }
+    ensures decides { (limits : Limits) (moment : ℕ) (d0 d : DeskNow) (s0 : StageNow) (net0 net : NetState)
+        → CameDecides limits moment d0 s0 net0 d came net → CameDecides limits moment d0 s0 net0 d result net }
 {
     let Came::On(stage, waits) = came else {
         return came;
@@ -430,6 +466,8 @@ fn end_answering<L: Link>(desk: &mut Desk<L>, answering: Answering<L>, waits: Wa
     ensures left { (limits : Limits) (moment : ℕ) → CameLeaves limits moment (desk_now L.state desk.new) result }
     ensures own { CameOwn answering.status (L.state desk.old.client).taken_count (desk_now L.state desk.new) result }
     ensures still { LeavesNothing (desk_now L.state desk.old) (stage_of_answering answering) (desk_now L.state desk.new) result }
+    ensures decides { (limits : Limits) (moment : ℕ) (net : NetState)
+        → CameDecides limits moment (desk_now L.state desk.old) (stage_of_answering answering) net (desk_now L.state desk.new) result net }
 {
     if desk.to.len() > 0 {
         return Came::On(Stage::Answering(answering), waits);
@@ -460,6 +498,8 @@ fn do_stage<L: Link, S: Seat<Rested<L>>, N: Net<L = L>>(
     ensures still { (d0 : DeskNow) (s0 : StageNow) (moment : ℕ)
         → PausedOrChosen d0 s0 (desk_now L.state desk.old) (stage_now stage) moment
         → WhereOn result (λ s w. IsIdle d0 s0 (desk_now L.state desk.new) s moment) }
+    ensures decides { (limits : Limits) (moment : ℕ) → CameDecides limits moment (desk_now L.state desk.old) (stage_now stage)
+        (N.state net.old) (desk_now L.state desk.new) result (N.state net.new) }
 {
     match stage {
         Stage::Reading(held) => read_head(desk, held, scene.now, scene.waits),
@@ -511,6 +551,9 @@ fn do_phase<L: Link, S: Seat<Rested<L>>, N: Net<L = L>>(
     ensures still { (d0 : DeskNow) (s0 : StageNow) (moment : ℕ)
         → WhereOn came (λ s w. PausedOrChosen d0 s0 (desk_now L.state desk.old) s moment)
         → WhereOn result (λ s w. IsIdle d0 s0 (desk_now L.state desk.new) s moment) }
+    ensures decides { (limits : Limits) (moment : ℕ) (d0 : DeskNow) (s0 : StageNow) (net0 : NetState)
+        → CameDecides limits moment d0 s0 net0 (desk_now L.state desk.old) came (N.state net.old)
+        → CameDecides limits moment d0 s0 net0 (desk_now L.state desk.new) result (N.state net.new) }
 {
     let Came::On(stage, waits) = came else {
         return came;
@@ -552,6 +595,8 @@ fn take_some<L: Link, S: Seat<Rested<L>>, N: Net<L = L>>(
     ensures left { (limits : Limits) (moment : ℕ) → CameLeaves limits moment (desk_now L.state desk.new) result }
     ensures still { (d0 : DeskNow) (s0 : StageNow) → IsIdle d0 s0 (desk_now L.state desk.old) (stage_now stage) at.now.0
         → WhereOn result (λ s w. IsUnread d0 s0 (desk_now L.state desk.new) s at.now.0) }
+    ensures decides { (limits : Limits) (moment : ℕ) → CameDecides limits moment (desk_now L.state desk.old) (stage_now stage)
+        (N.state net.old) (desk_now L.state desk.new) result (N.state net.new) }
 {
     match read_client(desk, at.now) {
         Move::Bytes => Came::Moved(stage, at.waits, None),
@@ -590,6 +635,9 @@ fn move_from_client<L: Link, S: Seat<Rested<L>>, N: Net<L = L>>(
     ensures still { (d0 : DeskNow) (s0 : StageNow)
         → WhereOn came (λ s w. IsIdle d0 s0 (desk_now L.state desk.old) s now.0)
         → WhereOn result (λ s w. IsUnread d0 s0 (desk_now L.state desk.new) s now.0) }
+    ensures decides { (limits : Limits) (moment : ℕ) (d0 : DeskNow) (s0 : StageNow) (net0 : NetState)
+        → CameDecides limits moment d0 s0 net0 (desk_now L.state desk.old) came (N.state net.old)
+        → CameDecides limits moment d0 s0 net0 (desk_now L.state desk.new) result (N.state net.new) }
 {
     let Came::On(stage, waits) = came else {
         return came;
@@ -615,6 +663,8 @@ fn read_some<L: Link, S: Seat<Rested<L>>, N: Net<L = L>>(
     ensures still { (d0 : DeskNow) (s0 : StageNow)
         → IsUnread d0 s0 (desk_now L.state desk.old) (Exchanging (exchange_now exchange)) at.now.0
         → WhereOn result (λ s w. StandsStill d0 s0 (desk_now L.state desk.new) s at.now.0) }
+    ensures decides { (limits : Limits) (moment : ℕ)
+        → CameDecides limits moment (desk_now L.state desk.old) (Exchanging (exchange_now exchange)) (N.state net.old) (desk_now L.state desk.new) result (N.state net.new) }
 {
     let read = read_server(desk, &mut exchange, at.now);
     after_server_move(desk, exchange, seats, net, (read, at))
@@ -648,6 +698,9 @@ fn move_from_server<L: Link, S: Seat<Rested<L>>, N: Net<L = L>>(
     ensures still { (d0 : DeskNow) (s0 : StageNow)
         → WhereOn came (λ s w. IsUnread d0 s0 (desk_now L.state desk.old) s now.0)
         → WhereOn result (λ s w. StandsStill d0 s0 (desk_now L.state desk.new) s now.0) }
+    ensures decides { (limits : Limits) (moment : ℕ) (d0 : DeskNow) (s0 : StageNow) (net0 : NetState)
+        → CameDecides limits moment d0 s0 net0 (desk_now L.state desk.old) came (N.state net.old)
+        → CameDecides limits moment d0 s0 net0 (desk_now L.state desk.new) result (N.state net.new) }
 {
     let Came::On(stage, waits) = came else {
         return came;
@@ -703,6 +756,9 @@ fn give_left<L: Link, S: Seat<Rested<L>>, N: Net<L = L>>(
     ensures own { (status taken : ℕ) → CameOwn status taken (desk_now L.state desk.old) (Ends ending)
         → DoneOwn status taken (desk_now L.state desk.new) (stage_now result.stage) result.served }
     ensures moved { result.moved ≡ true }
+    ensures decides { (limits : Limits) (moment : ℕ) (d0 : DeskNow) (s0 : StageNow) (net0 : NetState)
+        → CameDecides limits moment d0 s0 net0 (desk_now L.state desk.old) (Ends ending) (N.state net.old)
+        → DoneDecides limits moment d0 s0 net0 (desk_now L.state desk.new) (stage_now result.stage) (N.state net.new) result.served }
 {
     let Ending {
         cause,
@@ -747,6 +803,9 @@ fn conclude<L: Link, S: Seat<Rested<L>>, N: Net<L = L>>(
     ensures still { (d0 : DeskNow) (s0 : StageNow) (moment : ℕ)
         → WhereOn came (λ s w. StandsStill d0 s0 (desk_now L.state desk.old) s moment)
         → result.moved ≡ false → StandsStill d0 s0 (desk_now L.state desk.new) (stage_now result.stage) moment }
+    ensures decides { (limits : Limits) (moment : ℕ) (d0 : DeskNow) (s0 : StageNow) (net0 : NetState)
+        → CameDecides limits moment d0 s0 net0 (desk_now L.state desk.old) came (N.state net.old)
+        → DoneDecides limits moment d0 s0 net0 (desk_now L.state desk.new) (stage_now result.stage) (N.state net.new) result.served }
 {
     match came {
         Came::On(stage, waits) => Done {
@@ -805,6 +864,8 @@ pub(crate) fn advance<L: Link, S: Seat<Rested<L>>, N: Net<L = L>>(
         → DoneOwn status taken (desk_now L.state desk.new) (stage_now result.stage) result.served }
     ensures still { result.moved ≡ false
         → StandsStill (desk_now L.state desk.old) (stage_now stage) (desk_now L.state desk.new) (stage_now result.stage) scene.entry.now.0 }
+    ensures decides { DoneDecides (limits_with (Some scene.entry.front.now) (Some scene.entry.back.now)) scene.entry.now.0
+        (desk_now L.state desk.old) (stage_now stage) (N.state net.old) (desk_now L.state desk.new) (stage_now result.stage) (N.state net.new) result.served }
 {
     let came = meet_deadline(desk, stage, seats, net, scene);
     let came = move_to_client(desk, came, seats, net, scene.now);

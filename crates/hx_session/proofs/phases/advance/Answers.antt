@@ -221,3 +221,16 @@ returns-clause-still g c =
     let chosen = c.take_turn-came.ensures.still d (desk_now state c.move_to_server-came.new.desk) s moment sent in
     let idle = c.do_phase-came.ensures.still d s moment chosen in
     c.conclude.ensures.still d s moment (c.move_from_server-came.ensures.still d s (c.move_from_client-came.ensures.still d s idle))
+
+pub returns-clause-decides : goal.returns-clause-decides
+returns-clause-decides g c =
+    let state = g.L.Link.state in
+    let limits = limits_with (Some c.args.scene.front.now) (Some c.args.scene.back.now) in
+    let moment = c.args.scene.now.0 in
+    let d : DeskNow = desk_now state c.args.desk.now in
+    let s : StageNow = stage_now c.args.stage in
+    let net : NetState = g.N.Net.state c.args.net.now in
+    let sent = c.move_to_server-came.ensures.decides limits moment d s net (c.move_to_client-came.ensures.decides limits moment d s net c.meet_deadline-came.ensures.decides) in
+    let chosen = c.take_turn-came.ensures.decides limits moment d (desk_now state c.move_to_server-came.new.desk) s net (g.N.Net.state c.move_to_server-came.new.net) sent in
+    let read = c.move_from_client-came.ensures.decides limits moment d s net (c.do_phase-came.ensures.decides limits moment d s net chosen) in
+    c.conclude.ensures.decides limits moment d s net (c.move_from_server-came.ensures.decides limits moment d s net read)

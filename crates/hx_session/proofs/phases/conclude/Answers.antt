@@ -18,6 +18,8 @@ use Rattle.hx_session.specs.Leaving.{CameLeaves}
 use Rattle.hx_session.specs.Owning.{CameOwn}
 use Rattle.hx_session.specs.Still.{WhereOn}
 use Rattle.hx_session.specs.Waiting.{StandsStill}
+use Rattle.hx_session.proofs.DecidedLemmas.{done_stays}
+use Rattle.hx_session.specs.Decided.{CameDecides}
 use Rattle.hx_session.proofs.phases.conclude.Goals as goal
 
 true_false : true ≡ false → ⊥
@@ -80,3 +82,22 @@ returns-in-On-clause-still g c = λ d0 s0 moment k is. subst (λ (x : Came g.row
 
 pub returns-in-Ends-clause-still : goal.returns-in-Ends-clause-still
 returns-in-Ends-clause-still g c = λ d0 s0 moment k is. absurd (true_false (sym c.give_left.ensures.moved ∙ is))
+
+pub returns-in-On-clause-decides : goal.returns-in-On-clause-decides
+returns-in-On-clause-decides g c = λ limits moment d0 s0 net0 k.
+    let d : DeskNow = desk_now g.L.Link.state c.args.desk.now in
+    let net : NetState = g.N.Net.state c.args.net.now in
+    done_stays limits moment d0 s0 net0 d (stage_now c.in-On.stage) net (subst (λ (x : Came g.row.L.Denot). CameDecides limits moment d0 s0 net0 d x net) c.in-On.is k)
+
+pub returns-in-Moved-clause-decides : goal.returns-in-Moved-clause-decides
+returns-in-Moved-clause-decides g c = λ limits moment d0 s0 net0 k.
+    let d : DeskNow = desk_now g.L.Link.state c.args.desk.now in
+    let net : NetState = g.N.Net.state c.args.net.now in
+    let x = subst (λ (x : Came g.row.L.Denot). CameDecides limits moment d0 s0 net0 d x net) c.in-Moved.is k in
+    record { own = x.0; cut = x.1 }
+
+pub returns-in-Ends-clause-decides : goal.returns-in-Ends-clause-decides
+returns-in-Ends-clause-decides g c = λ limits moment d0 s0 net0 k.
+    let d : DeskNow = desk_now g.L.Link.state c.args.desk.now in
+    let net : NetState = g.N.Net.state c.args.net.now in
+    c.give_left.ensures.decides limits moment d0 s0 net0 (subst (λ (x : Came g.row.L.Denot). CameDecides limits moment d0 s0 net0 d x net) c.in-Ends.is k)
