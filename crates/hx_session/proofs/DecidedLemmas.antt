@@ -437,7 +437,7 @@ none_own s status none some = none_some (sym none ∙ some)
     none_some : None ≡ Some status → ⊥
     none_some z = cc
 
-far_same : (d d' : DeskNow) (s t : StageNow) (net : NetState) → d' ≡ d → t ≡ s → IsSoFar d s net d' t net
+pub far_same : (d d' : DeskNow) (s t : StageNow) (net : NetState) → d' ≡ d → t ≡ s → IsSoFar d s net d' t net
 far_same d d' s t net e f = subst (λ (x : DeskNow). IsSoFar d s net x t net) (sym e) (subst (λ (x : StageNow). IsSoFar d s net d x net) (sym f) (far_self d s net))
 
 pub passes_decide : {X : Type 0} (limits : Limits) (now : ℕ) (d d' : DeskNow) (s : StageNow) (net : NetState) (c : Came X) → PassesOn c → LeavesNothing d s d' c → CameDecides limits now d s net d' c net
@@ -717,8 +717,8 @@ pub not_there : (limits : Limits) (now : ℕ) (d : DeskNow) (s : StageNow) (net 
 not_there limits now d s net t e = far_same d d s t net refl (sym e)
 
 -- what a session that leaves holds nothing of
-pub lets_bury : (n : SessionNo) (held : Option RestedNow) (seats seats' : List History) (net net' : NetState) (client client' : LinkState) → held ≡ None → LetsGo n held seats seats' net net' client client' → net'.buried ≡ net.buried
-lets_bury n held seats seats' net net' client client' none k =
+pub lets_bury : (n : SessionNo) (held : Option RestedNow) (seats seats' : List History) (net net' : NetState) (a b : LinkState) → held ≡ None → LetsGo n held seats seats' net net' a b → net'.buried ≡ net.buried
+lets_bury n held seats seats' net net' a b none k =
     let closes = subst (λ (h : Option RestedNow). ClosesAny seats seats' n h net k.between) none k.closes in
     ap (λ (x : NetState). x.buried) k.detaches.0.0 ∙ ap (λ (x : NetState). x.buried) closes.1
 

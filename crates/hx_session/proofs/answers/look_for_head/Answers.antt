@@ -1,3 +1,5 @@
+use Rattle.hx_message.specs.declared.MethodKind.{MethodKind}
+use Rattle.hx_session_parts.specs.Answers.{BreaksAnswer}
 use Rattle.hx_session.specs.Causes.{ServerEnded}
 use Rattle.std.proofs.Common.{List, map, sym, subst, ap}
 use Rattle.hx_link.specs.Nets.{NetState}
@@ -118,4 +120,4 @@ returns-in-Broken-clause-decides g c = λ limits moment.
     let carried = c.requires.placed.set.stands in
     let ends = subst (λ (p : PipeNow). EndsByServer (record d { down = p }) e.busy net cut.Broken 502 d2 c.end_by_server.result net2) c.look_down.ensures.same
     (as_server _ e.busy net _ cut.Broken _ 502 d2 c.end_by_server.result net2 c.bad_gateway-why.ensures.same c.bad_gateway-why.ensures.status c.end_by_server.ensures.by_server) in
-    broken_decides limits moment d d2 e net net2 c.end_by_server.result carried (broken_head d e carried c.requires.heads c.in-Broken.ensures.looks) ends
+    broken_decides limits moment d d2 e net net2 c.end_by_server.result carried (broken_head d e carried c.requires.heads (subst (λ (m : MethodKind). BreaksAnswer m d.down.bytes) c.method.ensures c.in-Broken.ensures.looks)) ends

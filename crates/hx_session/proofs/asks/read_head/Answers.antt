@@ -29,7 +29,7 @@ returns-in-Whole g c = record {
   first = λ l f. omega (arith, c.len.ensures.len, c.if-len-eq0.false, ap length f.from);
   left = λ limits moment. tt;
   still = tt;
-  decides = λ limits moment net. unowned limits moment (desk_now g.L.Link.state c.args.desk.now) (Reading c.args.held) net (record (desk_now g.L.Link.state c.args.desk.now) { from = c.look_up.new.from }) net (stage_of_choosing (record { asked = c.in-Whole.asked; server = c.held_server-server.result; held = c.args.held })) refl;
+  decides = λ limits moment net. unowned limits moment (desk_now g.L.Link.state c.args.desk.now) (Reading c.args.held) net (record (desk_now g.L.Link.state c.args.desk.now) { from = c.look_up.new.from }) net (stage_of_choosing {X = g.row.L.Denot} (record { asked = c.in-Whole.asked; server = c.held_server-server.result; held = c.args.held })) refl;
 }
 
 pub returns-in-More-clause-goes : goal.returns-in-More-clause-goes

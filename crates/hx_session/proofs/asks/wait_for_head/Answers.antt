@@ -28,7 +28,7 @@ returns-then-desk g c = record {
       (c.requires.between.anew.desk.ended c.if-desk.true, between_none d c.requires.between c.requires.more.1);
   decides = λ limits moment net.
       let d : DeskNow = desk_now g.L.Link.state c.args.desk.now in
-      subst (λ (x : Came g.row.L.Denot). CameDecides limits moment d (Wanting c.args.held) net d x net) (sym c.leave.ensures) (ends_none limits moment d (Wanting c.args.held) net d net (record { cause = left_cause.End; held = c.args.held; served = None }) refl);
+      subst (λ (x : Came g.row.L.Denot). CameDecides limits moment d (Wanting c.args.held) net d x net) (sym c.leave.ensures) (ends_none {X = g.row.L.Denot} limits moment d (Wanting c.args.held) net d net (record { cause = left_cause.End; held = c.args.held; served = None }) refl);
   still =
       let d : DeskNow = desk_now g.L.Link.state c.args.desk.now in
       subst (λ (x : Came g.row.L.Denot). LeavesNothing d (Wanting c.args.held) d x) (sym c.leave.ensures) tt;

@@ -10,14 +10,14 @@ use Rattle.std.proofs.Common.{inl, inr}
 use Rattle.hx_record.specs.declared.served.CutCause.TheVariants as cut
 use Rattle.hx_session.proofs.phases.cut_late.Goals as goal
 
-pub returns-then-desk-clause-decides : goal.returns-then-desk-clause-decides
-returns-then-desk-clause-decides g c = λ limits moment late is.
+pub returns-then-len-gt0-clause-decides : goal.returns-then-len-gt0-clause-decides
+returns-then-len-gt0-clause-decides g c = λ limits moment late is.
     let d : DeskNow = desk_now g.L.Link.state c.args.desk.now in
     let d2 : DeskNow = desk_now g.L.Link.state c.cut.new.desk in
     cut_decides limits moment d d d2 (exchange_now c.args.exchange) (g.N.Net.state c.args.net.now) (g.N.Net.state c.cut.new.net) cut.Client c.cut.result (λ front. client (inr (inr (inl late)))) c.cut.ensures.cuts
 
-pub returns-else-desk-clause-decides : goal.returns-else-desk-clause-decides
-returns-else-desk-clause-decides g c = λ limits moment late is.
+pub returns-clause-decides : goal.returns-clause-decides
+returns-clause-decides g c = λ limits moment late is.
     let d : DeskNow = desk_now g.L.Link.state c.args.desk.now in
     let d2 : DeskNow = desk_now g.L.Link.state c.end_by_server.new.desk in
     let e : ExchangeNow = exchange_now c.args.exchange in

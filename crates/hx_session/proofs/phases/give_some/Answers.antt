@@ -141,7 +141,7 @@ returns-in-Failed g c =
       own = λ status taken k. c.leave_or_cut.ensures.own status taken (gives_taken d d2 c.args.at.now.0 c.give.result c.give.ensures.gives ∙ k.0, k.1);
       decides = λ limits moment.
           let gave = subst (λ (x : Move). GivesClient d d2 c.args.at.now.0 x) c.in-Failed.is c.give.ensures.gives in
-          c.leave_or_cut.ensures.decides limits moment d gave.1.0.1.1;
+          c.leave_or_cut.ensures.decides limits moment d gave.1.1.1;
       left = c.leave_or_cut.ensures.left;
       first = λ l f. absurd (idle_not c.give.result Failed (gives_fresh l d d2 (stage_now c.args.stage) c.args.at.now.0 c.give.result f c.give.ensures.gives).0 c.in-Failed.is (λ e. cc));
     }
