@@ -219,8 +219,10 @@ cuts_from limits now d0 d s0 s net0 net net' client' served k cuts = λ r c w b 
     by_client front (inl h) = inl (h.0, asked (λ bytes. (n : ℕ) → HasWholeRequest bytes n → ⊥) client'.taken h.1)
     by_client front (inr (inl h)) = inr (inl (rose_from d0.client.faults d.client.faults client'.faults k.client.faults h))
     by_client front (inr (inr (inl h))) = inr (inr (inl (comes limits.client h)))
-    by_client front (inr (inr (inr h))) = inr (inr (inr (given h.0,
-      subst (λ (o : Option (List ℕ)). IfSome o (λ bytes. HasBadChunks (drop d0.ask_from bytes))) (ap (λ (l : LinkState). l.taken) k.client.link) (asked HasBadChunks d.client.taken h.1))))
+    by_client front (inr (inr (inr h))) = inr (inr (inr (
+      given h.0,
+      subst (λ (o : Option (List ℕ)). IfSome o (λ bytes. HasBadChunks (drop d0.ask_from bytes))) (ap (λ (l : LinkState). l.taken) k.client.link) (asked HasBadChunks d.client.taken h.1),
+    )))
 
     by_ended : (a b : BusyNow) → BusyStays a b → ServerEnded b → ServerEnded a
     by_ended a b stays h = (sym (ap (λ (y : LinkState). y.told_end) stays.link.link) ∙ h.0, answer_stays IsNoAnswer a b stays h.1)
@@ -594,9 +596,11 @@ done_leaves limits now d0 s0 net0 d d' net net' held served cuts none stays is =
   cut = λ r c w b at kind_is was.
       let k = cuts r c w b at kind_is was in
       let same = stays (none r c w at kind_is) in
-      let x = k.1 in
-      (k.0, record { dial = x.dial; same = x.same; taken = x.taken; sent = x.sent; ended = x.ended; buries = subst (λ (o : Option (List LinkState)). GainsAll (k.0 ∷ []) net0.buried o) (sym same) x.buries },
-       λ front. loose_cut limits now d0 s0 d.client d'.client b k.0 w front is (k.2 front));
+      let x = k.1 in (
+        k.0,
+        record { dial = x.dial; same = x.same; taken = x.taken; sent = x.sent; ended = x.ended; buries = subst (λ (o : Option (List LinkState)). GainsAll (k.0 ∷ []) net0.buried o) (sym same) x.buries },
+        λ front. loose_cut limits now d0 s0 d.client d'.client b k.0 w front is (k.2 front),
+      );
 }
   where
     never : (status : ℕ) → None ≡ Some status → ⊥

@@ -107,7 +107,7 @@ returns-then-exchange-clause-decides g c = λ limits moment.
     let carried = c.requires.placed.set.stands in
     let server_ended : ServerEnded e.busy = (carried.ended c.if-exchange.true, no_head d e carried c.requires.heads c.in-More.ensures.looks) in
     let loses = subst (λ (p : PipeNow). LosesServer (record d { down = p }) e.busy net cut.Ended 502 d2 c.lose_server.result net2) c.look_down.ensures.same
-    (as_loss _ e.busy net _ cut.Ended _ 502 d2 c.lose_server.result net2 c.bad_gateway-why-then-exchange.ensures.same c.bad_gateway-why-then-exchange.ensures.status c.lose_server.ensures.loses) in
+    (as_loss (record d { down = c.look_down.new.down }) e.busy net _ cut.Ended _ 502 d2 c.lose_server.result net2 c.bad_gateway-why-then-exchange.ensures.same c.bad_gateway-why-then-exchange.ensures.status c.lose_server.ensures.loses) in
     loss_decides limits moment d d2 e net net2 cut.Ended c.lose_server.result carried (λ busy. inl server_ended) (λ busy. ended_cut limits moment d e carried server_ended) loses
 
 pub returns-in-Broken-clause-decides : goal.returns-in-Broken-clause-decides
@@ -119,5 +119,5 @@ returns-in-Broken-clause-decides g c = λ limits moment.
     let net2 : NetState = g.N.Net.state c.end_by_server.new.net in
     let carried = c.requires.placed.set.stands in
     let ends = subst (λ (p : PipeNow). EndsByServer (record d { down = p }) e.busy net cut.Broken 502 d2 c.end_by_server.result net2) c.look_down.ensures.same
-    (as_server _ e.busy net _ cut.Broken _ 502 d2 c.end_by_server.result net2 c.bad_gateway-why.ensures.same c.bad_gateway-why.ensures.status c.end_by_server.ensures.by_server) in
+    (as_server (record d { down = c.look_down.new.down }) e.busy net _ cut.Broken _ 502 d2 c.end_by_server.result net2 c.bad_gateway-why.ensures.same c.bad_gateway-why.ensures.status c.end_by_server.ensures.by_server) in
     broken_decides limits moment d d2 e net net2 c.end_by_server.result carried (broken_head d e carried c.requires.heads (subst (λ (m : MethodKind). BreaksAnswer m d.down.bytes) c.method.ensures c.in-Broken.ensures.looks)) ends

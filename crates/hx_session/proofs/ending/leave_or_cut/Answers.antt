@@ -60,7 +60,7 @@ returns-in-Choosing g c =
       rooms = rooms_none g.S.HasHistory.history (room_of g.S.HasHistory.kept_from g.S.HasHistory.spare) c.args.seats.now;
       own = λ status taken k. absurd (none_own (own_seen (stage_now c.args.stage)) status (ap (λ (x : Stage g.row.L.Denot). own_seen (stage_now x)) c.in-Choosing.is) k.1);
       left = λ limits moment. subst (λ (x : Came g.row.L.Denot). CameLeaves limits moment d x) (sym c.leave-in-Choosing.ensures) c.requires.fault;
-      decides = λ limits moment d0 rose. subst (λ (x : Came g.row.L.Denot). CameDecides limits moment d0 (stage_now c.args.stage) net d x net) (sym c.leave-in-Choosing.ensures) (ends_none {X = g.row.L.Denot} limits moment d0 (stage_now c.args.stage) net d net (record { cause = fault_cause.Fault; held = c.in-Choosing.held; served = None }) refl);
+      decides = λ limits moment d0 rose. subst (λ (x : Came g.row.L.Denot). CameDecides limits moment d0 (stage_now c.args.stage) net d x net) (sym c.leave-in-Choosing.ensures) (ends_none {X = g.row.L.Denot} limits moment d0 (stage_now c.args.stage) net d net (record { cause = fault_cause.Fault; held = c.in-Choosing.field-0.held; served = None }) refl);
       moved = subst (λ (x : Came g.row.L.Denot). HasMoved x) (sym c.leave-in-Choosing.ensures) tt;
       leaves = λ held e. subst (λ (x : Came g.row.L.Denot). IsEnding x) (sym c.leave-in-Choosing.ensures) tt;
     }
