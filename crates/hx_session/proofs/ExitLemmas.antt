@@ -19,7 +19,8 @@ use Rattle.hx_session.specs.declared.step.Waits.TheVariants as waits
 use Rattle.hx_session.specs.Desks.{DeskNow}
 use Rattle.hx_session.specs.Fits.{SeatsServe, GoesTo, IsGoing, TurnsFit}
 use Rattle.hx_session.specs.Seen.{conn_seen, chosen_seen, unless_held, over_seen, session_seen}
-use Rattle.hx_session.specs.Stages.{StageNow, Reading, Choosing, Exchanging, Answering, Left}
+use Rattle.hx_session.specs.Stages.{StageNow, StandsSo, Reading, Choosing, Exchanging, Answering, Left}
+use Rattle.hx_session.specs.Waiting.{StandsStill}
 use Rattle.hx_session.specs.Standing.{IsSound, IsPlaced, IsRoutedTo, IsDone, KeepsWho}
 use Rattle.hx_session.specs.Doings.{IsSameSession}
 use Rattle.hx_session.specs.Parting.{outcome_of}
@@ -41,6 +42,14 @@ done_holds d (Reading held) seats w left k = k.0.set.around.holds
 done_holds d (Choosing c) seats w left k = k.0.set.around.holds
 done_holds d (Exchanging e) seats w left k = k.0.set.around.holds
 done_holds d (Answering a) seats w left k = k.0.set.around.holds
+
+-- and it stands so where it didn't move
+pub done_stands : (d0 d : DeskNow) (s0 s : StageNow) (seats : List History) (w : Waits) (left : Option Leave) (now : ℕ) → StandsStill d0 s0 d s now → IsDone d s seats w left → StandsSo d s
+done_stands d0 d s0 Left seats w left now k done = absurd k.unread.idle.nothing
+done_stands d0 d s0 (Reading held) seats w left now k done = done.0.set.stands
+done_stands d0 d s0 (Choosing c) seats w left now k done = done.0.set.stands
+done_stands d0 d s0 (Exchanging e) seats w left now k done = done.0.set.stands
+done_stands d0 d s0 (Answering a) seats w left now k done = done.0.set.stands
 
 pub done_ended : (d : DeskNow) (s : StageNow) (seats : List History) (w : Waits) (left : Option Leave) → IsDone d s seats w left
     → (w ≡ waits.Ended → over_seen s ≡ true) × (over_seen s ≡ true → w ≡ waits.Ended)

@@ -43,7 +43,7 @@ server_finds d s e front back now (Some OfServer) is k = (e, is, k)
 
 -- where a head is read no server is waited for
 pub fresh_late : (l : LinkState) (d : DeskNow) (s : StageNow) (front : Front) (back : Back) (now : ℕ) (late : Late) → IsFresh l d s → d.number ≡ 1 → FindsLate d s front back now (Some late) → HasCome front.client d.since.0 now
-fresh_late l d s front back now Client f one k = ⊎_elim (λ c. c) (λ c. absurd (c.1 one)) k
+fresh_late l d s front back now Client f one k = ⊎_elim (λ c. c) (λ c. absurd (c.1.later one)) k
 fresh_late l d s front back now Connect f one k = absurd (reading_not f.held k.0 (sym f.is ∙ k.1))
   where
     reading_not : (held : Option RestedNow) (e : ExchangeNow) → Reading held ≡ Exchanging e → ⊥

@@ -4,7 +4,11 @@ use Rattle.std.specs.Prelude.{IfSome, if◌then◌else◌}
 use Rattle.std.proofs.lemmas.List.{take-append-drop}
 use Rattle.std.specs.List.{slice_get}
 use Rattle.httparse.specs.Ascii.{space}
-use Rattle.httparse.specs.Grammar.{RequestHead, ReadsRequest, HasNoRequest, print_blank}
+use Rattle.httparse.specs.Grammar.{RequestHead, ReadsRequest, HasNoRequest, MayBecomeRequest, print_blank}
+use Rattle.hx_record.specs.Samples.{ask as sample}
+use Rattle.hx_record.proofs.TrueSamples.{ask_head, asked}
+use Rattle.hx_session_parts.specs.Asks.{AskLooks}
+use Rattle.hx_session_parts.specs.declared.asks.AskLook.TheVariants.{More}
 use Rattle.httparse.proofs.GrammarLemmas.{ReadsRequest-append, print_request-append}
 use Rattle.hx_base.specs.Counts.{Rose}
 use Rattle.hx_base.specs.declared.numbers.Millis.{Millis}
@@ -49,6 +53,10 @@ empty_front a b c x e = omega (arith, ap length e, length-append a (b ++ x ∷ c
 
 pub none_empty : (bytes : List ℕ) → bytes ≡ [] → HasNoRequest bytes
 none_empty bytes e h rest r = empty_front (print_blank h.blank) h.method _ space (sym e ∙ (r.1 ∙ print_request-append h rest))
+
+-- but one may come
+pub empty_more : (bytes : List ℕ) → bytes ≡ [] → AskLooks bytes More
+empty_more bytes e = (omega (arith, ap (λ (xs : List ℕ). length xs) e), none_empty bytes e, subst MayBecomeRequest (sym e) (inl (sample, ask_head, asked.reads)))
 
 -- and where no head stands no whole request does
 none_whole : (bytes : List ℕ) → HasNoRequest bytes → (n : ℕ) → HasWholeRequest bytes n → ⊥

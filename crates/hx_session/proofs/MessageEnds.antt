@@ -12,7 +12,7 @@ use Rattle.hx_message.specs.Body.{Framed, IsBody, kind_of_method, request_kind, 
 use Rattle.hx_message.specs.Forwarded.{BeginsInterims, IsFinal}
 use Rattle.hx_message.specs.Limits.{IsShortAnswer}
 use Rattle.hx_message.specs.Message.{IsRequest, IsAnswerWith}
-use Rattle.hx_message.specs.Partial.{HasWholeRequest, HasShortAnswer}
+use Rattle.hx_message.specs.Partial.{HasWholeRequest, HasShortAnswer, HasWholeAnswer}
 use Rattle.hx_frame.specs.declared.meter.Meter.{Meter}
 use Rattle.hx_frame.specs.declared.progress.MeterState.{MeterState}
 use Rattle.hx_frame.specs.declared.progress.MeterState.TheVariants.{Going, Done, Bad}
@@ -30,7 +30,7 @@ proper_none (Length k) front more x y some = absurd (omega (arith, some, ap leng
 proper_none Chunked front more x y some = absurd (omega (arith, some, ap length (one_body_end Chunked front more (λ e. cc) x y)))
 proper_none ToEnd front more x y some = refl
 
-going_none : (kind : BodyKind) (whole front more : List ℕ) → IsProperPart kind whole → whole ≡ front ++ more → IsBody kind front → kind ≡ ToEnd
+pub going_none : (kind : BodyKind) (whole front more : List ℕ) → IsProperPart kind whole → whole ≡ front ++ more → IsBody kind front → kind ≡ ToEnd
 going_none kind whole front more part is body =
     let m = part.0 in
     proper_none kind front (more ++ m) body (subst (λ (xs : List ℕ). IsBody kind xs) (ap (λ (xs : List ℕ). xs ++ m) is ∙ append_assoc front more m) part.2)
@@ -122,14 +122,14 @@ ask_tells taken put g kind meter w e =
 same_kind : (k l : BodyKind) (r s : Framed) → r ≡ s → r ≡ Ok k → s ≡ Ok l → k ≡ l
 same_kind k l r s e a b = cc
 
-ask_whole : (taken put waiting : List ℕ) (g : RequestHead) (kind : BodyKind) (meter : Meter) (n : ℕ) (w : IsAskOnWay taken put g kind meter) → EndsBodyIn kind w.body waiting (Some n)
+pub ask_whole : (taken put waiting : List ℕ) (g : RequestHead) (kind : BodyKind) (meter : Meter) (n : ℕ) (w : IsAskOnWay taken put g kind meter) → EndsBodyIn kind w.body waiting (Some n)
     → HasWholeRequest (taken ++ waiting) (length taken + n)
 ask_whole taken put waiting g kind meter n w ends = (
   omega (arith, ends.0, length-append taken waiting),
   (kind_of_method g.method, subst (λ (xs : List ℕ). IsRequest xs (kind_of_method g.method)) (sym (take-append-add taken waiting n)) (ask_more taken put (take n waiting) g kind meter w ends.1)),
 )
 
-ask_none : (taken put waiting : List ℕ) (g : RequestHead) (kind : BodyKind) (meter : Meter) (w : IsAskOnWay taken put g kind meter) → EndsBodyIn kind w.body waiting None
+pub ask_none : (taken put waiting : List ℕ) (g : RequestHead) (kind : BodyKind) (meter : Meter) (w : IsAskOnWay taken put g kind meter) → EndsBodyIn kind w.body waiting None
     → (k : ℕ) → HasWholeRequest (taken ++ waiting) k → ⊥
 ask_none taken put waiting g kind meter w ends k (inside, (m, (g', body', x, is))) =
     let all = taken ++ waiting in
@@ -181,9 +181,9 @@ answer_ended m closing taken put waiting g kind meter n w ends =
       }),
     )
 
-pub answer_none : (m : MethodKind) (closing : Bool) (taken put waiting : List ℕ) (g : ResponseHead) (kind : BodyKind) (meter : Meter) (w : IsAnswerOnWay m closing taken put g kind meter)
-    → EndsBodyIn kind w.body waiting None → (k : ℕ) → HasShortAnswer m (taken ++ waiting) k → ⊥
-answer_none m closing taken put waiting g kind meter w ends k ((inside, (g', kind', x, own)), short) =
+pub answer_unwhole : (m : MethodKind) (closing : Bool) (taken put waiting : List ℕ) (g : ResponseHead) (kind : BodyKind) (meter : Meter) (w : IsAnswerOnWay m closing taken put g kind meter)
+    → EndsBodyIn kind w.body waiting None → (k : ℕ) → HasWholeAnswer m (taken ++ waiting) k → ⊥
+answer_unwhole m closing taken put waiting g kind meter w ends k (inside, (g', kind', x, own)) =
     let all = taken ++ waiting in
     let more = drop k all in
     let back = take-append-drop k all in
@@ -193,3 +193,7 @@ answer_none m closing taken put waiting g kind meter w ends k ((inside, (g', kin
     theirs (ReadsResponse-append x.rest g' x.body more x.reads) x.final in
     let same = same_kind kind kind' (answer_kind m g) (answer_kind m g') (ap (answer_kind m) u.0) w.framed x.framed in
     own (sym same ∙ ends x.body more u.1 (subst (λ (l : BodyKind). IsBody l x.body) (sym same) x.whole))
+
+pub answer_none : (m : MethodKind) (closing : Bool) (taken put waiting : List ℕ) (g : ResponseHead) (kind : BodyKind) (meter : Meter) (w : IsAnswerOnWay m closing taken put g kind meter)
+    → EndsBodyIn kind w.body waiting None → (k : ℕ) → HasShortAnswer m (taken ++ waiting) k → ⊥
+answer_none m closing taken put waiting g kind meter w ends k h = answer_unwhole m closing taken put waiting g kind meter w ends k h.0

@@ -1,5 +1,5 @@
 -- That what a step decided has its cause.
-use Rattle.std.specs.Prelude.{◌≡◌, ◌⊎◌, ℕ, Option, Some, None, IfSome, slice_get}
+use Rattle.std.specs.Prelude.{◌≡◌, ◌⊎◌, ℕ, Option, Some, None, IfSome, slice_get, ⊤}
 use Rattle.hx_base.specs.Counts.{Rose}
 use Rattle.hx_config.specs.Meaning.{Meaning}
 use Rattle.hx_pool.specs.SeatView.{History}
@@ -8,8 +8,10 @@ use Rattle.hx_connecting.specs.Sessions.{SessionNow, Exchanging}
 use Rattle.hx_connecting.specs.Touches.{Touch, Opened, Ends}
 use Rattle.hx_base.specs.declared.numbers.ServerNo.{ServerNo}
 use Rattle.hx_connecting.specs.Choosing.{AllDrain, IsChosen, servers_of, back_no}
-use Rattle.hx_session.specs.Causes.{Limits, ServerEvent, Unserved, all_drain, no_numbers, no_dial, Decides, CutsFor, LeavesFor}
+use Rattle.hx_session.specs.Causes.{Limits, Buries, Unserved, all_drain, no_numbers, no_dial, Decides, CutsFor, LeavesFor}
 use Rattle.hx_conn.specs.Conns.{BusyNow}
+use Rattle.hx_link.specs.Nets.{NetState}
+use Rattle.hx_link.specs.Told.{LinkState}
 use Rattle.hx_config.specs.declared.parts.Back.{Back}
 use Rattle.hx_pool.specs.History.{opens_of}
 use Rattle.hx_pool.specs.Opening.{open_limit}
@@ -49,9 +51,20 @@ KeepsOwn s s' served =
     (s'.client.taken_count ≡ s.client.taken_count)
     × ((s'.own ≡ Some status) ⊎ ((r : Served) × (served ≡ Some r) × (r.kind ≡ kind.Own status))))
 
--- the causes of what a step at a moment decided
-pub record StepsForCause (config : Meaning) (limits : Limits) (d : Doing) (now : ℕ) (chose : Option ServerNo) (x : Option Touch) (e : ServerEvent) : Type 0 where
-  pub own : DecidesNew (Decides limits d.old e now (Lacks config d chose x)) d.old d.new d.served
-  pub cut : CutsNew (λ b why. CutsFor limits d.old d.new e b now why) d.old d.served
+-- each own answer of a call at a moment has its cause, but for the one that no server took the request
+abbrev pub OwnsFor : Limits → SessionNow → SessionNow → NetState → NetState → ℕ → Option Served → Type 0
+OwnsFor limits s s' net net' now served = DecidesNew (Decides limits s net net' now (λ u. ⊤)) s s' served
+
+-- and so has each cut
+abbrev pub CausesCut : Limits → SessionNow → LinkState → NetState → NetState → ℕ → BusyNow → CutCause → Type 0
+CausesCut limits s client net net' now b why = (l : LinkState) × Buries b net net' l × CutsFor limits s client b l now why
+
+abbrev pub CutsAllFor : Limits → SessionNow → SessionNow → NetState → NetState → ℕ → Option Served → Type 0
+CutsAllFor limits s s' net net' now served = CutsNew (CausesCut limits s s'.client net net' now) s served
+
+-- what a step at a moment decided has its cause
+pub record StepsForCause (config : Meaning) (limits : Limits) (d : Doing) (now : ℕ) (chose : Option ServerNo) (x : Option Touch) : Type 0 where
+  pub own : DecidesNew (Decides limits d.old d.before.net d.after.net now (Lacks config d chose x)) d.old d.new d.served
+  pub cut : CutsAllFor limits d.old d.new d.before.net d.after.net now d.served
   pub left : IfSome d.left (λ l. LeavesFor limits d.old d.new d.served now l.cause)
   pub keeps : KeepsOwn d.old d.new d.served

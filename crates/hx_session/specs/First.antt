@@ -14,10 +14,17 @@ use Rattle.hx_session.specs.Desks.{DeskNow}
 use Rattle.hx_session.specs.Exchanged.{ExchangeNow}
 use Rattle.hx_session.specs.Stages.{StageNow, Reading, Exchanging, stage_now}
 
--- the client's deadline has come, for a later request perhaps that of a connection kept alive
-abbrev pub IsClientLate : DeskNow → Front → ℕ → Type 0
-IsClientLate d front now =
-    HasCome front.client d.since.0 now ⊎ (HasCome front.keep_alive d.since.0 now × (d.number ≡ 1 → ⊥))
+-- nothing of a request that isn't the session's first is there
+pub record IsBetweenTwo (d : DeskNow) (s : StageNow) : Type 0 where
+  pub later : d.number ≡ 1 → ⊥
+  pub none : d.from.bytes ≡ []
+  pub held : Option RestedNow
+  pub reads : s ≡ Reading held
+
+-- the client's deadline has come, before a later request perhaps that of a connection kept alive
+abbrev pub IsClientLate : DeskNow → StageNow → Front → ℕ → Type 0
+IsClientLate d s front now =
+    HasCome front.client d.since.0 now ⊎ (HasCome front.keep_alive d.since.0 now × IsBetweenTwo d s)
 
 -- a deadline of the server's side has come
 abbrev pub ServerComes : ℕ → Back → ℕ → Late → Type 0
@@ -28,7 +35,7 @@ ServerComes since back now Server = HasCome back.server since now
 -- which deadline has come since the admission, those of a server in an exchange alone
 abbrev pub FindsLate : DeskNow → StageNow → Front → Back → ℕ → Option Late → Type 0
 FindsLate d s front back now None = ⊤
-FindsLate d s front back now (Some Client) = IsClientLate d front now
+FindsLate d s front back now (Some Client) = IsClientLate d s front now
 FindsLate d s front back now (Some Connect) = (e : ExchangeNow) × (s ≡ Exchanging e) × HasCome back.connect d.since.0 now
 FindsLate d s front back now (Some Server) = (e : ExchangeNow) × (s ≡ Exchanging e) × HasCome back.server d.since.0 now
 

@@ -19,7 +19,7 @@ use Rattle.hx_session.specs.Causes.{Limits, CanBeLate}
 use Rattle.hx_session.specs.Doings.{Doing, IsSameSession, IsSameNet}
 use Rattle.hx_session.specs.Deciding.{StepsForCause}
 use Rattle.hx_connecting.specs.Holds.{HoldsAt}
-use Rattle.hx_session.specs.Touching.{Touches, ClosesForCauses, after_of, event_of}
+use Rattle.hx_session.specs.Touching.{Touches, ClosesForCauses, after_of}
 
 -- the first step reads the client's link, unless a deadline has come
 abbrev pub ReadsFirst : SessionNow → SessionNow → Type 0
@@ -77,7 +77,7 @@ pub record StepChooses (config : Meaning) (d : Doing) (x : Option Touch) : Type 
 pub record StepTells (config : Meaning) (limits : Limits) (d : Doing) (now : ℕ) (chose : Option ServerNo) (x : Option Touch) (t : Touches d x) : Type 0 where
   pub records : Records d.old d.new (after_of d x t) d.left d.served
   pub leaves : Leaves d.new d.left
-  pub causes : StepsForCause config limits d now chose x (event_of d x t)
+  pub causes : StepsForCause config limits d now chose x
 
 -- one that moved did something, one that didn't stands still, and the first one reads the client's link, unless its deadline has come
 pub record StepMoves (limits : Limits) (d : Doing) (now : ℕ) (r : Step) (x : Option Touch) : Type 0 where

@@ -8,7 +8,6 @@ use Rattle.hx_connecting.specs.Touches.{Touch}
 use Rattle.hx_connecting.specs.Links.{LinkGoes, NoLinkGoes}
 use Rattle.hx_connecting.specs.Closings.{Call, ClosesFor}
 use Rattle.hx_connecting.specs.Exchanges.{ExchangeGoes, PassedEnds}
-use Rattle.hx_session.specs.Causes.{ServerEvent}
 use Rattle.hx_connecting.specs.Ways.{IsOwn}
 use Rattle.hx_session.specs.Doings.{Doing, AtServer}
 
@@ -45,11 +44,7 @@ ClosesForCauses d None t = ⊤
 ClosesForCauses d (Some x) t =
     ClosesForCause (λ n id before. ClosesFor (closing_call d t.at.history before x t.goes.before t.goes.after)) [] t.at.es
 
--- what the link of the touched connection tells after the call, and what happened to it
+-- what the link of the touched connection tells after the call
 abbrev pub after_of : (d : Doing) (x : Option Touch) → Touches d x → Option What
 after_of d None t = None
 after_of d (Some x) t = t.goes.after
-
-abbrev pub event_of : (d : Doing) (x : Option Touch) → Touches d x → ServerEvent
-event_of d None t = record { before = None; after = None }
-event_of d (Some x) t = record { before = t.goes.before; after = t.goes.after }

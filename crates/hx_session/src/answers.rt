@@ -1,11 +1,11 @@
 //! What a step does in an exchange.
 
-ghost use Rattle.std.specs.Prelude.{◌≡◌, ◌⊎◌, ◌↔◌, ◌+◌, ◌≤◌, ◌||◌, ◌&&◌, not, IsTrue, List, map, Option, Some, None};
+ghost use Rattle.std.specs.Prelude.{◌≡◌, ℕ, ◌⊎◌, ◌↔◌, ◌+◌, ◌≤◌, ◌||◌, ◌&&◌, not, IsTrue, false, List, map, Option, Some, None};
 ghost use Rattle.httparse.specs.Grammar as grammar;
 ghost use Rattle.hx_config.specs.declared.parts.Back.{Back};
 ghost use Rattle.hx_link.specs.Links.{LinkFinishes};
 ghost use Rattle.hx_message.specs.declared.BodyKind.TheVariants.{ToEnd};
-ghost use Rattle.hx_frame.specs.declared.progress.MeterState.TheVariants.{Going};
+ghost use Rattle.hx_frame.specs.declared.progress.MeterState.TheVariants.{Going, Bad};
 ghost use Rattle.hx_pool.specs.SeatView.{History};
 ghost use Rattle.hx_record.specs.declared.served.LeftCause.{LeftCause as Cause};
 ghost use Rattle.hx_session_parts.specs.Answers.{IsInterimAt, IsAnswerTo};
@@ -15,7 +15,7 @@ ghost use Rattle.hx_session.specs.Ending.{HasOwnText};
 ghost use Rattle.hx_session.specs.Exchanged.{ExchangeNow, exchange_now};
 ghost use Rattle.hx_session.specs.Carried.{IsCarried};
 ghost use Rattle.hx_session.specs.Over.{IsOver, IsTold, closing_of};
-ghost use Rattle.hx_session.specs.Finishing.{MayDo, DoesAtEnd, IsAnswerGiven, WasOver, EndsAnswer, RestsTo};
+ghost use Rattle.hx_session.specs.Finishing.{MayDo, DoesAsk, DoesAnswer, HasBadAnswer, SpellsNone, DoesAtEnd, IsAnswerGiven, WasOver, EndsAnswer, RestsTo};
 ghost use Rattle.hx_session.specs.Passing.{PassesBody, BeginsBody};
 ghost use Rattle.hx_session.specs.Picking.{Picks};
 ghost use Rattle.hx_session.specs.Seen.{conn_seen};
@@ -29,6 +29,10 @@ ghost use Rattle.hx_connecting.specs.Touches.{Touch};
 ghost use Rattle.hx_session.specs.Parting.{MayTouch, CountsOn, RestsSo, came_conn, came_served, first_of};
 ghost use Rattle.hx_session.specs.Standing.{IsPlaced, CamePlaced, IsRoutedTo, CameRouted, KeepsDesk, KeepsAsk, IsSameConn, KeepsPlace, Goes};
 ghost use Rattle.hx_session.specs.Telling.{IsStillTold, GivesPassed, CameTells};
+ghost use Rattle.hx_session.specs.Still.{HasMoved};
+ghost use Rattle.hx_session.specs.Causes.{Limits};
+ghost use Rattle.hx_session.specs.Decided.{CameDecides, HasPassed, PassesOn};
+ghost use Rattle.hx_session.specs.Waiting.{AskIdle, LeavesNothing, StaysOrMoves};
 
 use crate::cuts::look_down;
 use crate::desk::Desk;
@@ -80,13 +84,15 @@ fn is_going(state: MeterState) -> bool
     matches!(state, MeterState::Going)
 }
 
-fn is_bad(state: MeterState) -> bool {
+fn is_bad(state: MeterState) -> bool
+    ensures { IsTrue result ↔ (state ≡ Bad) }
+{
     matches!(state, MeterState::Bad)
 }
 
 /// What is to do for the request.
 fn next_of_ask<L: Link>(desk: &Desk<L>, exchange: &Exchange<L>) -> Do
-    ensures { MayDo (desk_now L.state desk.now) (exchange_now exchange.now) result }
+    ensures { DoesAsk (desk_now L.state desk.now) (exchange_now exchange.now) result }
 {
     if is_bad(exchange.ask.state) {
         return Do::BadAsk;
@@ -126,13 +132,14 @@ fn next_at_end<L: Link>(exchange: &Exchange<L>, body: &BodyWay, to: &Pipe) -> Do
     }
 }
 
-/// What is to do for the body of an answer.
+/// What is to do for the body of an answer, which isn't bad.
 fn next_of_body<L: Link>(desk: &Desk<L>, exchange: &Exchange<L>, body: &BodyWay) -> Do
     requires body { exchange.now.answer ≡ Body body.now }
-    ensures { MayDo (desk_now L.state desk.now) (exchange_now exchange.now) result }
+    requires good { body.now.state ≡ Bad → ⊥ }
+    ensures { DoesAnswer (desk_now L.state desk.now) (exchange_now exchange.now) result }
 {
     match body.state {
-        MeterState::Bad => Do::Nothing,
+        MeterState::Bad => unreachable!(),
         MeterState::Done => {
             if desk.to.len() == 0 {
                 Do::Finish
@@ -153,9 +160,10 @@ fn next_of_body<L: Link>(desk: &Desk<L>, exchange: &Exchange<L>, body: &BodyWay)
     }
 }
 
-/// What is to do for the answer.
+/// What is to do for the answer, whose body isn't bad.
 fn next_of_answer<L: Link>(desk: &Desk<L>, exchange: &Exchange<L>) -> Do
-    ensures { MayDo (desk_now L.state desk.now) (exchange_now exchange.now) result }
+    requires good { HasBadAnswer (exchange_now exchange.now) → ⊥ }
+    ensures { DoesAnswer (desk_now L.state desk.now) (exchange_now exchange.now) result }
 {
     match &exchange.answer {
         AnswerWay::Heads => Do::LookForHead,
@@ -163,7 +171,9 @@ fn next_of_answer<L: Link>(desk: &Desk<L>, exchange: &Exchange<L>) -> Do
     }
 }
 
-fn has_bad_answer<L: Link>(exchange: &Exchange<L>) -> bool {
+fn has_bad_answer<L: Link>(exchange: &Exchange<L>) -> bool
+    ensures { IsTrue result ↔ HasBadAnswer (exchange_now exchange.now) }
+{
     match &exchange.answer {
         AnswerWay::Heads => false,
         AnswerWay::Body(body) => is_bad(body.state),
@@ -283,6 +293,8 @@ fn spell_interim<L: Link>(
     ensures keeps { KeepsAsk (desk_now L.state desk.old) (desk_now L.state desk.new) }
     ensures told { IsStillTold (desk_now L.state desk.old) (Exchanging (exchange_now exchange.old))
         (desk_now L.state desk.new) (Exchanging (exchange_now exchange.new)) }
+    ensures full { result ≡ false → SpellsNone (desk_now L.state desk.old) (exchange_now exchange.old)
+        (desk_now L.state desk.new) (exchange_now exchange.new) }
 {
     let taken_to = exchange.busy.taken().to;
     let since = desk.wait_start(now);
@@ -311,6 +323,8 @@ fn spell_final<L: Link>(
     ensures keeps { KeepsAsk (desk_now L.state desk.old) (desk_now L.state desk.new) }
     ensures told { IsStillTold (desk_now L.state desk.old) (Exchanging (exchange_now exchange.old))
         (desk_now L.state desk.new) (Exchanging (exchange_now exchange.new)) }
+    ensures full { result ≡ false → SpellsNone (desk_now L.state desk.old) (exchange_now exchange.old)
+        (desk_now L.state desk.new) (exchange_now exchange.new) }
 {
     let taken_to = exchange.busy.taken().to;
     let body = body_way(answered, exchange.ask.wants_close, exchange.ask.written);
@@ -333,6 +347,8 @@ fn goes_on<L: Link>(exchange: Exchange<L>, waits: Waiting, moved: bool) -> Came<
     ensures picks { (hs : List History) → Picks (conn_seen (Exchanging (exchange_now exchange))) None hs result hs }
     ensures told { (d0 d : DeskNow) (s0 : StageNow) → IsStillTold d0 s0 d (Exchanging (exchange_now exchange))
         → CameTells d0 s0 d result }
+    ensures still { StaysOrMoves (exchange_now exchange) moved result }
+    ensures passes { PassesOn result }
 {
     let stage = Stage::Exchanging(exchange);
     if moved {
@@ -346,6 +362,7 @@ fn goes_on<L: Link>(exchange: Exchange<L>, waits: Waiting, moved: bool) -> Came<
 fn bad_gateway(cause: CutCause, now: Millis, waits: Waiting) -> (CutCause, Own)
     ensures known { HasOwnText result.1.status }
     ensures same { result.0 ≡ cause }
+    ensures status { result.1.status ≡ 502 }
 {
     (
         cause,
@@ -370,6 +387,10 @@ fn look_for_head<L: Link, S: Seat<Rested<L>>, N: Net<L = L>>(
     ensures rooms { RoomsStay S.history (room_of S.kept_from S.spare) seats.old seats.new }
     ensures goes { Goes (desk_now L.state desk.old) (Exchanging (exchange_now exchange)) (map S.history seats.old) (N.state net.old)
         (desk_now L.state desk.new) result (map S.history seats.new) (N.state net.new) }
+    ensures still { AskIdle (desk_now L.state desk.old) (exchange_now exchange)
+        → LeavesNothing (desk_now L.state desk.old) (Exchanging (exchange_now exchange)) (desk_now L.state desk.new) result }
+    ensures decides { (limits : Limits) (moment : ℕ) → CameDecides limits moment (desk_now L.state desk.old) (Exchanging (exchange_now exchange))
+        (N.state net.old) (desk_now L.state desk.new) result (N.state net.new) }
 {
     match look_down(exchange.busy.method(), &mut desk.down) {
         AnswerLook::Interim(head) => {
@@ -462,6 +483,9 @@ fn finish<L: Link, S: Seat<Rested<L>>, N: Net<L = L>>(
     ensures rooms { RoomsStay S.history (room_of S.kept_from S.spare) seats.old seats.new }
     ensures goes { Goes (desk_now L.state desk.old) (Exchanging (exchange_now exchange)) (map S.history seats.old) (N.state net.old)
         (desk_now L.state desk.new) result (map S.history seats.new) (N.state net.new) }
+    ensures moved { HasMoved result }
+    ensures decides { (limits : Limits) (moment : ℕ) → CameDecides limits moment (desk_now L.state desk.old) (Exchanging (exchange_now exchange))
+        (N.state net.old) (desk_now L.state desk.new) result (N.state net.new) }
 {
     if exchange.is_early() {
         return cut(desk, exchange, seats, net, CutCause::Early);
@@ -496,6 +520,8 @@ fn after_pass<L: Link>(
     ensures told { (d : DeskNow) (e : ExchangeNow) → closing ≡ closing_of e.answer
         → GivesPassed d (desk_now L.state desk.old) e served → ((why : Cause) → IsTold d.client e.busy.link why served)
         → CameTells d (Exchanging e) (desk_now L.state desk.new) result }
+    ensures moved { HasMoved result }
+    ensures passed { HasPassed result served }
 {
     if closing {
         finish_client(&mut desk.client);
@@ -513,10 +539,14 @@ fn refuse_ask<L: Link, S: Seat<Rested<L>>, N: Net<L = L>>(
     net: &mut N,
     at: At,
 ) -> Came<L>
+    requires bad { exchange.ask.state ≡ Bad }
     requires placed { IsPlaced (desk_now L.state desk.old) (Exchanging (exchange_now exchange)) (map S.history seats.old) }
     ensures rooms { RoomsStay S.history (room_of S.kept_from S.spare) seats.old seats.new }
     ensures goes { Goes (desk_now L.state desk.old) (Exchanging (exchange_now exchange)) (map S.history seats.old) (N.state net.old)
         (desk_now L.state desk.new) result (map S.history seats.new) (N.state net.new) }
+    ensures moved { HasMoved result }
+    ensures decides { (limits : Limits) (moment : ℕ) → CameDecides limits moment (desk_now L.state desk.old) (Exchanging (exchange_now exchange))
+        (N.state net.old) (desk_now L.state desk.new) result (N.state net.new) }
 {
     let own = Own {
         status: 400,
@@ -538,6 +568,9 @@ pub(crate) fn go_on<L: Link, S: Seat<Rested<L>>, N: Net<L = L>>(
     ensures rooms { RoomsStay S.history (room_of S.kept_from S.spare) seats.old seats.new }
     ensures goes { Goes (desk_now L.state desk.old) (Exchanging (exchange_now exchange)) (map S.history seats.old) (N.state net.old)
         (desk_now L.state desk.new) result (map S.history seats.new) (N.state net.new) }
+    ensures still { LeavesNothing (desk_now L.state desk.old) (Exchanging (exchange_now exchange)) (desk_now L.state desk.new) result }
+    ensures decides { (limits : Limits) (moment : ℕ) → CameDecides limits moment (desk_now L.state desk.old) (Exchanging (exchange_now exchange))
+        (N.state net.old) (desk_now L.state desk.new) result (N.state net.new) }
 {
     match next_of(desk, &exchange) {
         Do::BadAsk => refuse_ask(desk, exchange, seats, net, at),

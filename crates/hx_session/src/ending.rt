@@ -1,6 +1,6 @@
 //! How exchanges and sessions end early.
 
-ghost use Rattle.std.specs.Prelude.{◌≡◌, ◌+◌, ◌≤◌, ℕ, [], List, Option, length, map, Some, None};
+ghost use Rattle.std.specs.Prelude.{◌≡◌, ◌+◌, ◌≤◌, ℕ, [], IsTrue, false, List, Option, length, map, Some, None};
 ghost use Rattle.hx_link.specs.Nets.{NetState};
 ghost use Rattle.hx_link.specs.Pipes.{pipe as a_pipe};
 ghost use Rattle.hx_message.specs.OwnAnswer.{IsOwnAnswer};
@@ -16,12 +16,15 @@ ghost use Rattle.hx_connecting.specs.Rooms.{RoomsStay};
 ghost use Rattle.hx_session.specs.Parting.{PartTouches, StopCloses};
 ghost use Rattle.hx_conn.specs.Conns.{IsBusy, RestedNow};
 ghost use Rattle.hx_session.specs.declared.stage.Came.TheVariants.{Ends};
-ghost use Rattle.hx_session.specs.Desks.{desk_now, IsDesk};
+ghost use Rattle.hx_session.specs.Desks.{DeskNow, desk_now, IsDesk};
 ghost use Rattle.hx_session.specs.Exchanged.{exchange_now};
 ghost use Rattle.hx_session.specs.Causes.{Limits};
 ghost use Rattle.hx_session.specs.First.{IsEnding};
 ghost use Rattle.hx_session.specs.Leaving.{CameLeaves, LeavesBy};
 ghost use Rattle.hx_session.specs.Owning.{CameOwn, OwnAt};
+ghost use Rattle.hx_session.specs.Still.{HasMoved};
+ghost use Rattle.hx_base.specs.Counts.{Rose};
+ghost use Rattle.hx_session.specs.Decided.{CameDecides, CutsAs, EndsByServer, GivesUp, IsHeard, IsSilent, LosesServer, Ungiven};
 ghost use Rattle.hx_session.specs.Over.{served_of, after_record};
 ghost use Rattle.hx_session.specs.Stages.{Exchanging, Reading, StandsSo, own_stage, stage_of_answering, stage_now};
 ghost use Rattle.hx_record.specs.declared.served.CutCause.TheVariants.{Early};
@@ -162,6 +165,8 @@ pub(crate) fn cut<L: Link, S: Seat<Rested<L>>, N: Net<L = L>>(
     ensures ends { EndsInCut (desk_now L.state desk.old) (desk_now L.state desk.new) (exchange_now exchange) cause result }
     ensures goes { Goes (desk_now L.state desk.old) (Exchanging (exchange_now exchange)) (map S.history seats.old) (N.state net.old)
         (desk_now L.state desk.new) result (map S.history seats.new) (N.state net.new) }
+    ensures moved { HasMoved result }
+    ensures cuts { CutsAs (desk_now L.state desk.old) exchange.busy (N.state net.old) cause (desk_now L.state desk.new) result (N.state net.new) }
 {
     let served = cut_off(desk, exchange, seats, net, cause);
     desk.drop_waiting();
@@ -190,6 +195,8 @@ pub(crate) fn give_up<L: Link, S: Seat<Rested<L>>, N: Net<L = L>>(
     ensures rooms { RoomsStay S.history (room_of S.kept_from S.spare) seats.old seats.new }
     ensures goes { Goes (desk_now L.state desk.old) (Exchanging (exchange_now exchange)) (map S.history seats.old) (N.state net.old)
         (desk_now L.state desk.new) result (map S.history seats.new) (N.state net.new) }
+    ensures moved { HasMoved result }
+    ensures gives { GivesUp (desk_now L.state desk.old) exchange.busy (N.state net.old) own.status (desk_now L.state desk.new) result (N.state net.new) }
 {
     close_busy(seats, net, desk.session, exchange.busy);
     let stage = answer(desk, own.status, None, own.now);
@@ -211,6 +218,9 @@ pub(crate) fn end_by_server<L: Link, S: Seat<Rested<L>>, N: Net<L = L>>(
     ensures rooms { RoomsStay S.history (room_of S.kept_from S.spare) seats.old seats.new }
     ensures goes { Goes (desk_now L.state desk.old) (Exchanging (exchange_now exchange)) (map S.history seats.old) (N.state net.old)
         (desk_now L.state desk.new) result (map S.history seats.new) (N.state net.new) }
+    ensures moved { HasMoved result }
+    ensures by_server { EndsByServer (desk_now L.state desk.old) exchange.busy (N.state net.old) why.0 why.1.status
+        (desk_now L.state desk.new) result (N.state net.new) }
 {
     if desk.has_given() {
         cut(desk, exchange, seats, net, why.0)
@@ -220,7 +230,10 @@ pub(crate) fn end_by_server<L: Link, S: Seat<Rested<L>>, N: Net<L = L>>(
 }
 
 /// The connection was used before and gave nothing for this request, which isn't the session's first.
-fn is_silent<L: Link>(desk: &Desk<L>, exchange: &Exchange<L>) -> bool {
+fn is_silent<L: Link>(desk: &Desk<L>, exchange: &Exchange<L>) -> bool
+    ensures silent { IsTrue result → IsSilent (desk_now L.state desk.now) exchange.now.busy }
+    ensures heard { result ≡ false → Ungiven (desk_now L.state desk.now) → IsHeard (desk_now L.state desk.now) exchange.now.busy }
+{
     let taken = exchange.busy.taken();
     desk.number >= 2 && exchange.busy.nth() >= 2 && taken.from == taken.to && !desk.has_given()
 }
@@ -240,6 +253,9 @@ pub(crate) fn lose_server<L: Link, S: Seat<Rested<L>>, N: Net<L = L>>(
     ensures rooms { RoomsStay S.history (room_of S.kept_from S.spare) seats.old seats.new }
     ensures goes { Goes (desk_now L.state desk.old) (Exchanging (exchange_now exchange)) (map S.history seats.old) (N.state net.old)
         (desk_now L.state desk.new) result (map S.history seats.new) (N.state net.new) }
+    ensures moved { HasMoved result }
+    ensures loses { LosesServer (desk_now L.state desk.old) exchange.busy (N.state net.old) why.0 why.1.status
+        (desk_now L.state desk.new) result (N.state net.new) }
 {
     if is_silent(desk, &exchange) {
         cut(desk, exchange, seats, net, CutCause::Silent)
@@ -263,6 +279,7 @@ pub(crate) fn leave_answering<L: Link>(
     ensures left { (limits : Limits) (moment : ℕ) → LeavesBy limits moment (desk_now L.state desk.old) left
         → CameLeaves limits moment (desk_now L.state desk.new) result }
     ensures own { CameOwn answering.status (L.state desk.old.client).taken_count (desk_now L.state desk.new) result }
+    ensures moved { HasMoved result }
 {
     let Answering { status, held } = answering;
     let served = tell_own(desk, status);
@@ -287,6 +304,10 @@ pub(crate) fn leave_or_cut<L: Link, S: Seat<Rested<L>>, N: Net<L = L>>(
     ensures left { (limits : Limits) (moment : ℕ) → CameLeaves limits moment (desk_now L.state desk.new) result }
     ensures own { (status taken : ℕ) → OwnAt status taken (desk_now L.state desk.old) (stage_now stage)
         → CameOwn status taken (desk_now L.state desk.new) result }
+    ensures moved { HasMoved result }
+    ensures decides { (limits : Limits) (moment : ℕ) (d0 : DeskNow)
+        → Rose d0.client.faults (L.state desk.old.client).faults
+        → CameDecides limits moment d0 (stage_now stage) (N.state net.old) (desk_now L.state desk.new) result (N.state net.new) }
 {
     match stage {
         Stage::Exchanging(exchange) => cut(desk, exchange, seats, net, CutCause::Client),

@@ -1,6 +1,6 @@
 //! The parts of a step, in their order.
 
-ghost use Rattle.std.specs.Prelude.{◌≡◌, ◌⊎◌, ◌↔◌, ◌<◌, ◌≤◌, ℕ, IsTrue, IfSome, List, Option, length, map, false, None, Some};
+ghost use Rattle.std.specs.Prelude.{◌≡◌, ◌⊎◌, ◌↔◌, ◌<◌, ◌≤◌, ℕ, IsTrue, IfSome, List, Option, length, map, true, false, None, Some};
 ghost use Rattle.hx_base.specs.declared.numbers.ServerNo.{ServerNo};
 ghost use Rattle.hx_config.specs.declared.parts.Back.{Back};
 ghost use Rattle.hx_config.specs.Limits.{all_servers};
@@ -27,7 +27,9 @@ ghost use Rattle.hx_session.specs.Picking.{Picks, PicksTo, PicksSo, PicksAll};
 ghost use Rattle.hx_session.specs.Seen.{conn_seen, chosen_seen};
 ghost use Rattle.hx_session.specs.Stages.{StageNow, Left as Gone, Reading, Exchanging, StandsSo, IsBetween, stage_now, stage_of_answering, stage_of_choosing};
 ghost use Rattle.hx_session.specs.Standing.{IsCounted, IsPlaced, CamePlaced, IsRoutedTo, CameRouted, KeepsPlace, KeepsOver, Goes, IsDone, IsGone, IsLeaving, IsSet};
-ghost use Rattle.hx_session.specs.Still.{WantsClient};
+ghost use Rattle.hx_session.specs.Decided.{CameDecides, ClientComes, DoneDecides, IsQuiet, IsSoFar, ServerLate, status_for};
+ghost use Rattle.hx_session.specs.Still.{IsStill, HasMoved, StaysThere, WantsClient, WhereOn};
+ghost use Rattle.hx_session.specs.Waiting.{IsGiven, IsIdle, IsNone, IsPaused, IsUnread, LeavesNothing, PausedOrChosen, StandsStill};
 ghost use Rattle.hx_session.specs.Telling.{MoveTells, CameTells, TellsEnd, DoneTells};
 ghost use Rattle.hx_connecting.specs.Ways.{SomeWay};
 ghost use Rattle.hx_session.specs.Parting.{CameKeeps, LetsGo, TouchesOn, TouchesAll, first_of, outcome_of};
@@ -79,6 +81,9 @@ fn cut_late<L: Link, S: Seat<Rested<L>>, N: Net<L = L>>(
     ensures rooms { RoomsStay S.history (room_of S.kept_from S.spare) seats.old seats.new }
     ensures goes { Goes (desk_now L.state desk.old) (Exchanging (exchange_now exchange)) (map S.history seats.old) (N.state net.old)
         (desk_now L.state desk.new) result (map S.history seats.new) (N.state net.new) }
+    ensures moved { HasMoved result }
+    ensures decides { (limits : Limits) (moment : ℕ) → HasCome limits.client desk.old.since.0 moment → own.status ≡ 408
+        → CameDecides limits moment (desk_now L.state desk.old) (Exchanging (exchange_now exchange)) (N.state net.old) (desk_now L.state desk.new) result (N.state net.new) }
 {
     if desk.to.len() > 0 {
         return cut(desk, exchange, seats, net, CutCause::Client);
@@ -94,6 +99,10 @@ fn read_late<L: Link>(desk: &mut Desk<L>, held: Option<Rested<L>>, own: Own) -> 
         → Goes (desk_now L.state desk.old) (Reading held) seats net (desk_now L.state desk.new) result seats net }
     ensures left { (limits : Limits) (moment : ℕ) → LeavesBy limits moment (desk_now L.state desk.old) left_cause.Idle
         → CameLeaves limits moment (desk_now L.state desk.new) result }
+    ensures moved { HasMoved result }
+    ensures decides { (limits : Limits) (moment : ℕ) (net : NetState)
+        → ClientComes limits moment (desk_now L.state desk.old) (Reading held) → own.status ≡ 408
+        → CameDecides limits moment (desk_now L.state desk.old) (Reading held) net (desk_now L.state desk.new) result net }
 {
     if desk.ask_from < desk.taken {
         let stage = answer(desk, own.status, held, own.now);
@@ -110,6 +119,10 @@ fn choose_late<L: Link>(desk: &mut Desk<L>, choosing: Choosing<L>, own: Own) -> 
     ensures goes { (seats : List History) (net : NetState) → IsPlaced (desk_now L.state desk.old) (stage_of_choosing choosing) seats
         → Goes (desk_now L.state desk.old) (stage_of_choosing choosing) seats net (desk_now L.state desk.new) result seats net }
     ensures left { (limits : Limits) (moment : ℕ) → CameLeaves limits moment (desk_now L.state desk.new) result }
+    ensures moved { HasMoved result }
+    ensures decides { (limits : Limits) (moment : ℕ) (net : NetState)
+        → HasCome limits.client desk.old.since.0 moment → own.status ≡ 408
+        → CameDecides limits moment (desk_now L.state desk.old) (stage_of_choosing choosing) net (desk_now L.state desk.new) result net }
 {
     let Choosing { held, .. } = choosing;
     let stage = answer(desk, own.status, held, own.now);
@@ -133,6 +146,11 @@ fn meet_client_late<L: Link, S: Seat<Rested<L>>, N: Net<L = L>>(
         → CameLeaves limits moment (desk_now L.state desk.new) result }
     ensures own { (status taken : ℕ) → OwnAt status taken (desk_now L.state desk.old) (stage_now stage)
         → CameOwn status taken (desk_now L.state desk.new) result }
+    ensures still { StaysThere (desk_now L.state desk.old) (stage_now stage) (desk_now L.state desk.new) result }
+    ensures decides { (limits : Limits) (moment : ℕ)
+        → ClientComes limits moment (desk_now L.state desk.old) (stage_now stage) → own.status ≡ 408
+        → CameDecides limits moment (desk_now L.state desk.old) (stage_now stage)
+        (N.state net.old) (desk_now L.state desk.new) result (N.state net.new) }
 {
     match stage {
         Stage::Exchanging(exchange) => cut_late(desk, exchange, seats, net, own),
@@ -145,7 +163,8 @@ fn meet_client_late<L: Link, S: Seat<Rested<L>>, N: Net<L = L>>(
 
 /// The own answer of a deadline.
 fn own_of(late: Late, now: Millis) -> Own
-    ensures { HasOwnText result.status }
+    ensures known { HasOwnText result.status }
+    ensures status { result.status ≡ status_for late }
 {
     let status = match late {
         Late::Client => 408,
@@ -175,6 +194,11 @@ fn meet_server_late<L: Link, S: Seat<Rested<L>>, N: Net<L = L>>(
     ensures left { (limits : Limits) (moment : ℕ) → CameLeaves limits moment (desk_now L.state desk.new) result }
     ensures own { (status taken : ℕ) → OwnAt status taken (desk_now L.state desk.old) (stage_now stage)
         → CameOwn status taken (desk_now L.state desk.new) result }
+    ensures still { StaysThere (desk_now L.state desk.old) (stage_now stage) (desk_now L.state desk.new) result }
+    ensures decides { (limits : Limits) (moment : ℕ)
+        → ServerLate limits moment (desk_now L.state desk.old) own.status
+        → CameDecides limits moment (desk_now L.state desk.old) (stage_now stage)
+        (N.state net.old) (desk_now L.state desk.new) result (N.state net.new) }
 {
     match stage {
         Stage::Exchanging(exchange) => end_by_server(
@@ -210,6 +234,9 @@ fn meet_deadline<L: Link, S: Seat<Rested<L>>, N: Net<L = L>>(
         (desk_now L.state desk.new) result }
     ensures own { (status taken : ℕ) → OwnAt status taken (desk_now L.state desk.old) (stage_now stage)
         → CameOwn status taken (desk_now L.state desk.new) result }
+    ensures still { StaysThere (desk_now L.state desk.old) (stage_now stage) (desk_now L.state desk.new) result }
+    ensures decides { CameDecides (limits_with (Some scene.entry.front.now) (Some scene.entry.back.now)) scene.entry.now.0
+        (desk_now L.state desk.old) (stage_now stage) (N.state net.old) (desk_now L.state desk.new) result (N.state net.new) }
 {
     match find_late(desk, &stage, scene.front, scene.back, scene.now) {
         None => Came::On(stage, Waiting::Nothing),
@@ -240,6 +267,10 @@ fn give_some<L: Link, S: Seat<Rested<L>>, N: Net<L = L>>(
     ensures left { (limits : Limits) (moment : ℕ) → CameLeaves limits moment (desk_now L.state desk.new) result }
     ensures own { (status taken : ℕ) → OwnAt status taken (desk_now L.state desk.old) (stage_now stage)
         → CameOwn status taken (desk_now L.state desk.new) result }
+    ensures still { (d0 : DeskNow) (s0 : StageNow) → IsStill d0 s0 (desk_now L.state desk.old) (stage_now stage)
+        → WhereOn result (λ s w. IsGiven d0 s0 (desk_now L.state desk.new) s at.now.0) }
+    ensures decides { (limits : Limits) (moment : ℕ) → CameDecides limits moment (desk_now L.state desk.old) (stage_now stage)
+        (N.state net.old) (desk_now L.state desk.new) result (N.state net.new) }
 {
     match give(desk, at.now) {
         Move::Bytes => Came::Moved(stage, at.waits, None),
@@ -275,6 +306,12 @@ fn move_to_client<L: Link, S: Seat<Rested<L>>, N: Net<L = L>>(
         → CameLeaves limits moment (desk_now L.state desk.new) result }
     ensures own { (status taken : ℕ) → CameOwn status taken (desk_now L.state desk.old) came
         → CameOwn status taken (desk_now L.state desk.new) result }
+    ensures still { (d0 : DeskNow) (s0 : StageNow)
+        → WhereOn came (λ s w. IsStill d0 s0 (desk_now L.state desk.old) s)
+        → WhereOn result (λ s w. IsGiven d0 s0 (desk_now L.state desk.new) s now.0) }
+    ensures decides { (limits : Limits) (moment : ℕ) (d0 : DeskNow) (s0 : StageNow) (net0 : NetState)
+        → CameDecides limits moment d0 s0 net0 (desk_now L.state desk.old) came (N.state net.old)
+        → CameDecides limits moment d0 s0 net0 (desk_now L.state desk.new) result (N.state net.new) }
 {
     let Came::On(stage, waits) = came else {
         return came;
@@ -291,6 +328,7 @@ fn after_server_move<L: Link, S: Seat<Rested<L>>, N: Net<L = L>>(
     call: (Move, At),
 ) -> Came<L>
     requires good { (call.0 ≡ Failed → ⊥) → exchange.busy.exchange.failed ≡ false }
+    requires failed { call.0 ≡ Failed → exchange.busy.exchange.failed ≡ true }
     requires set { IsSet (desk_now L.state desk.old) (Exchanging (exchange_now exchange)) (map S.history seats.old) }
     ensures rooms { RoomsStay S.history (room_of S.kept_from S.spare) seats.old seats.new }
     ensures goes { Goes (desk_now L.state desk.old) (Exchanging (exchange_now exchange)) (map S.history seats.old) (N.state net.old)
@@ -299,6 +337,11 @@ fn after_server_move<L: Link, S: Seat<Rested<L>>, N: Net<L = L>>(
         → CameTells d (Exchanging e) (desk_now L.state desk.new) result }
     ensures keeps { (d : DeskNow) (e : ExchangeNow) → MoveTells call.0 d e (desk_now L.state desk.old) (exchange_now exchange)
         → CameKeeps result e.busy exchange.busy }
+    ensures still { WhereOn result (λ s w. (desk_now L.state desk.new ≡ desk_now L.state desk.old)
+        × (s ≡ Exchanging (exchange_now exchange)) × IsNone call.0) }
+    ensures decides { (limits : Limits) (moment : ℕ) (d : DeskNow) (e : ExchangeNow)
+        → (IsQuiet call.0 → IsSoFar d (Exchanging e) (N.state net.old) (desk_now L.state desk.old) (Exchanging (exchange_now exchange)) (N.state net.old))
+        → CameDecides limits moment d (Exchanging e) (N.state net.old) (desk_now L.state desk.new) result (N.state net.new) }
 {
     let (moved, at) = call;
     match moved {
@@ -329,6 +372,11 @@ fn send_some<L: Link, S: Seat<Rested<L>>, N: Net<L = L>>(
     ensures rooms { RoomsStay S.history (room_of S.kept_from S.spare) seats.old seats.new }
     ensures goes { Goes (desk_now L.state desk.old) (Exchanging (exchange_now exchange)) (map S.history seats.old) (N.state net.old)
         (desk_now L.state desk.new) result (map S.history seats.new) (N.state net.new) }
+    ensures still { (d0 : DeskNow) (s0 : StageNow)
+        → IsGiven d0 s0 (desk_now L.state desk.old) (Exchanging (exchange_now exchange)) at.now.0
+        → WhereOn result (λ s w. IsPaused d0 s0 (desk_now L.state desk.new) s at.now.0) }
+    ensures decides { (limits : Limits) (moment : ℕ)
+        → CameDecides limits moment (desk_now L.state desk.old) (Exchanging (exchange_now exchange)) (N.state net.old) (desk_now L.state desk.new) result (N.state net.new) }
 {
     let sent = send(desk, &mut exchange, at.now);
     after_server_move(desk, exchange, seats, net, (sent, at))
@@ -359,6 +407,12 @@ fn move_to_server<L: Link, S: Seat<Rested<L>>, N: Net<L = L>>(
         → CameLeaves limits moment (desk_now L.state desk.new) result }
     ensures own { (status taken : ℕ) → CameOwn status taken (desk_now L.state desk.old) came
         → CameOwn status taken (desk_now L.state desk.new) result }
+    ensures still { (d0 : DeskNow) (s0 : StageNow)
+        → WhereOn came (λ s w. IsGiven d0 s0 (desk_now L.state desk.old) s now.0)
+        → WhereOn result (λ s w. IsPaused d0 s0 (desk_now L.state desk.new) s now.0) }
+    ensures decides { (limits : Limits) (moment : ℕ) (d0 : DeskNow) (s0 : StageNow) (net0 : NetState)
+        → CameDecides limits moment d0 s0 net0 (desk_now L.state desk.old) came (N.state net.old)
+        → CameDecides limits moment d0 s0 net0 (desk_now L.state desk.new) result (N.state net.new) }
 {
     let Came::On(stage, waits) = came else {
         return came;
@@ -392,6 +446,10 @@ fn take_turn<L: Link, S: Seat<Rested<L>>>(
     ensures first { (l : LinkState) (d : DeskNow) → FreshOn l d came → FreshOn l d result }
     ensures left { (limits : Limits) (moment : ℕ) (d : DeskNow) → CameLeaves limits moment d came → CameLeaves limits moment d result }
     ensures own { (status taken : ℕ) (d : DeskNow) → CameOwn status taken d came → CameOwn status taken d result }
+    ensures still { (d0 d : DeskNow) (s0 : StageNow) (moment : ℕ) → WhereOn came (λ s w. IsPaused d0 s0 d s moment)
+        → WhereOn result (λ s w. PausedOrChosen d0 s0 d s moment) }
+    ensures decides { (limits : Limits) (moment : ℕ) (d0 d : DeskNow) (s0 : StageNow) (net0 net : NetState)
+        → CameDecides limits moment d0 s0 net0 d came net → CameDecides limits moment d0 s0 net0 d result net }
 {
     let Came::On(stage, waits) = came else {
         return came;
@@ -407,6 +465,9 @@ fn end_answering<L: Link>(desk: &mut Desk<L>, answering: Answering<L>, waits: Wa
         → Goes (desk_now L.state desk.old) (stage_of_answering answering) seats net (desk_now L.state desk.new) result seats net }
     ensures left { (limits : Limits) (moment : ℕ) → CameLeaves limits moment (desk_now L.state desk.new) result }
     ensures own { CameOwn answering.status (L.state desk.old.client).taken_count (desk_now L.state desk.new) result }
+    ensures still { LeavesNothing (desk_now L.state desk.old) (stage_of_answering answering) (desk_now L.state desk.new) result }
+    ensures decides { (limits : Limits) (moment : ℕ) (net : NetState)
+        → CameDecides limits moment (desk_now L.state desk.old) (stage_of_answering answering) net (desk_now L.state desk.new) result net }
 {
     if desk.to.len() > 0 {
         return Came::On(Stage::Answering(answering), waits);
@@ -434,6 +495,11 @@ fn do_stage<L: Link, S: Seat<Rested<L>>, N: Net<L = L>>(
     ensures left { (limits : Limits) (moment : ℕ) → CameLeaves limits moment (desk_now L.state desk.new) result }
     ensures own { (status taken : ℕ) → OwnAt status taken (desk_now L.state desk.old) (stage_now stage)
         → CameOwn status taken (desk_now L.state desk.new) result }
+    ensures still { (d0 : DeskNow) (s0 : StageNow) (moment : ℕ)
+        → PausedOrChosen d0 s0 (desk_now L.state desk.old) (stage_now stage) moment
+        → WhereOn result (λ s w. IsIdle d0 s0 (desk_now L.state desk.new) s moment) }
+    ensures decides { (limits : Limits) (moment : ℕ) → CameDecides limits moment (desk_now L.state desk.old) (stage_now stage)
+        (N.state net.old) (desk_now L.state desk.new) result (N.state net.new) }
 {
     match stage {
         Stage::Reading(held) => read_head(desk, held, scene.now, scene.waits),
@@ -482,6 +548,12 @@ fn do_phase<L: Link, S: Seat<Rested<L>>, N: Net<L = L>>(
         → CameLeaves limits moment (desk_now L.state desk.new) result }
     ensures own { (status taken : ℕ) → CameOwn status taken (desk_now L.state desk.old) came
         → CameOwn status taken (desk_now L.state desk.new) result }
+    ensures still { (d0 : DeskNow) (s0 : StageNow) (moment : ℕ)
+        → WhereOn came (λ s w. PausedOrChosen d0 s0 (desk_now L.state desk.old) s moment)
+        → WhereOn result (λ s w. IsIdle d0 s0 (desk_now L.state desk.new) s moment) }
+    ensures decides { (limits : Limits) (moment : ℕ) (d0 : DeskNow) (s0 : StageNow) (net0 : NetState)
+        → CameDecides limits moment d0 s0 net0 (desk_now L.state desk.old) came (N.state net.old)
+        → CameDecides limits moment d0 s0 net0 (desk_now L.state desk.new) result (N.state net.new) }
 {
     let Came::On(stage, waits) = came else {
         return came;
@@ -521,6 +593,10 @@ fn take_some<L: Link, S: Seat<Rested<L>>, N: Net<L = L>>(
         (desk_now L.state desk.new) result (map S.history seats.new) (N.state net.new) }
     ensures first { (l : LinkState) → IsFresh l (desk_now L.state desk.old) (stage_now stage) → ReadOn l (desk_now L.state desk.new) result }
     ensures left { (limits : Limits) (moment : ℕ) → CameLeaves limits moment (desk_now L.state desk.new) result }
+    ensures still { (d0 : DeskNow) (s0 : StageNow) → IsIdle d0 s0 (desk_now L.state desk.old) (stage_now stage) at.now.0
+        → WhereOn result (λ s w. IsUnread d0 s0 (desk_now L.state desk.new) s at.now.0) }
+    ensures decides { (limits : Limits) (moment : ℕ) → CameDecides limits moment (desk_now L.state desk.old) (stage_now stage)
+        (N.state net.old) (desk_now L.state desk.new) result (N.state net.new) }
 {
     match read_client(desk, at.now) {
         Move::Bytes => Came::Moved(stage, at.waits, None),
@@ -556,6 +632,12 @@ fn move_from_client<L: Link, S: Seat<Rested<L>>, N: Net<L = L>>(
         → CameLeaves limits moment (desk_now L.state desk.new) result }
     ensures own { (status taken : ℕ) → CameOwn status taken (desk_now L.state desk.old) came
         → CameOwn status taken (desk_now L.state desk.new) result }
+    ensures still { (d0 : DeskNow) (s0 : StageNow)
+        → WhereOn came (λ s w. IsIdle d0 s0 (desk_now L.state desk.old) s now.0)
+        → WhereOn result (λ s w. IsUnread d0 s0 (desk_now L.state desk.new) s now.0) }
+    ensures decides { (limits : Limits) (moment : ℕ) (d0 : DeskNow) (s0 : StageNow) (net0 : NetState)
+        → CameDecides limits moment d0 s0 net0 (desk_now L.state desk.old) came (N.state net.old)
+        → CameDecides limits moment d0 s0 net0 (desk_now L.state desk.new) result (N.state net.new) }
 {
     let Came::On(stage, waits) = came else {
         return came;
@@ -578,6 +660,11 @@ fn read_some<L: Link, S: Seat<Rested<L>>, N: Net<L = L>>(
     ensures rooms { RoomsStay S.history (room_of S.kept_from S.spare) seats.old seats.new }
     ensures goes { Goes (desk_now L.state desk.old) (Exchanging (exchange_now exchange)) (map S.history seats.old) (N.state net.old)
         (desk_now L.state desk.new) result (map S.history seats.new) (N.state net.new) }
+    ensures still { (d0 : DeskNow) (s0 : StageNow)
+        → IsUnread d0 s0 (desk_now L.state desk.old) (Exchanging (exchange_now exchange)) at.now.0
+        → WhereOn result (λ s w. StandsStill d0 s0 (desk_now L.state desk.new) s at.now.0) }
+    ensures decides { (limits : Limits) (moment : ℕ)
+        → CameDecides limits moment (desk_now L.state desk.old) (Exchanging (exchange_now exchange)) (N.state net.old) (desk_now L.state desk.new) result (N.state net.new) }
 {
     let read = read_server(desk, &mut exchange, at.now);
     after_server_move(desk, exchange, seats, net, (read, at))
@@ -608,6 +695,12 @@ fn move_from_server<L: Link, S: Seat<Rested<L>>, N: Net<L = L>>(
         → CameLeaves limits moment (desk_now L.state desk.new) result }
     ensures own { (status taken : ℕ) → CameOwn status taken (desk_now L.state desk.old) came
         → CameOwn status taken (desk_now L.state desk.new) result }
+    ensures still { (d0 : DeskNow) (s0 : StageNow)
+        → WhereOn came (λ s w. IsUnread d0 s0 (desk_now L.state desk.old) s now.0)
+        → WhereOn result (λ s w. StandsStill d0 s0 (desk_now L.state desk.new) s now.0) }
+    ensures decides { (limits : Limits) (moment : ℕ) (d0 : DeskNow) (s0 : StageNow) (net0 : NetState)
+        → CameDecides limits moment d0 s0 net0 (desk_now L.state desk.old) came (N.state net.old)
+        → CameDecides limits moment d0 s0 net0 (desk_now L.state desk.new) result (N.state net.new) }
 {
     let Came::On(stage, waits) = came else {
         return came;
@@ -662,6 +755,10 @@ fn give_left<L: Link, S: Seat<Rested<L>>, N: Net<L = L>>(
         → IfSome result.left (λ l. LeavesBy limits moment (desk_now L.state desk.new) l.cause) }
     ensures own { (status taken : ℕ) → CameOwn status taken (desk_now L.state desk.old) (Ends ending)
         → DoneOwn status taken (desk_now L.state desk.new) (stage_now result.stage) result.served }
+    ensures moved { result.moved ≡ true }
+    ensures decides { (limits : Limits) (moment : ℕ) (d0 : DeskNow) (s0 : StageNow) (net0 : NetState)
+        → CameDecides limits moment d0 s0 net0 (desk_now L.state desk.old) (Ends ending) (N.state net.old)
+        → DoneDecides limits moment d0 s0 net0 (desk_now L.state desk.new) (stage_now result.stage) (N.state net.new) result.served }
 {
     let Ending {
         cause,
@@ -703,6 +800,12 @@ fn conclude<L: Link, S: Seat<Rested<L>>, N: Net<L = L>>(
         → IfSome result.left (λ l. LeavesBy limits moment (desk_now L.state desk.new) l.cause) }
     ensures own { (status taken : ℕ) → CameOwn status taken (desk_now L.state desk.old) came
         → DoneOwn status taken (desk_now L.state desk.new) (stage_now result.stage) result.served }
+    ensures still { (d0 : DeskNow) (s0 : StageNow) (moment : ℕ)
+        → WhereOn came (λ s w. StandsStill d0 s0 (desk_now L.state desk.old) s moment)
+        → result.moved ≡ false → StandsStill d0 s0 (desk_now L.state desk.new) (stage_now result.stage) moment }
+    ensures decides { (limits : Limits) (moment : ℕ) (d0 : DeskNow) (s0 : StageNow) (net0 : NetState)
+        → CameDecides limits moment d0 s0 net0 (desk_now L.state desk.old) came (N.state net.old)
+        → DoneDecides limits moment d0 s0 net0 (desk_now L.state desk.new) (stage_now result.stage) (N.state net.new) result.served }
 {
     match came {
         Came::On(stage, waits) => Done {
@@ -759,6 +862,10 @@ pub(crate) fn advance<L: Link, S: Seat<Rested<L>>, N: Net<L = L>>(
         scene.entry.now.0 (desk_now L.state desk.new) l.cause) }
     ensures own { (status taken : ℕ) → OwnAt status taken (desk_now L.state desk.old) (stage_now stage)
         → DoneOwn status taken (desk_now L.state desk.new) (stage_now result.stage) result.served }
+    ensures still { result.moved ≡ false
+        → StandsStill (desk_now L.state desk.old) (stage_now stage) (desk_now L.state desk.new) (stage_now result.stage) scene.entry.now.0 }
+    ensures decides { DoneDecides (limits_with (Some scene.entry.front.now) (Some scene.entry.back.now)) scene.entry.now.0
+        (desk_now L.state desk.old) (stage_now stage) (N.state net.old) (desk_now L.state desk.new) (stage_now result.stage) (N.state net.new) result.served }
 {
     let came = meet_deadline(desk, stage, seats, net, scene);
     let came = move_to_client(desk, came, seats, net, scene.now);

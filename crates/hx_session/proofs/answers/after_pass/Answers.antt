@@ -6,6 +6,8 @@ use Rattle.hx_session.specs.Parting.{RestsSo}
 use Rattle.hx_session.specs.Stages.{Exchanging}
 use Rattle.hx_session.specs.Telling.{CameTells}
 use Rattle.hx_session.proofs.TellLemmas.{passed_closes, passed_moves}
+use Rattle.hx_session.specs.Still.{HasMoved}
+use Rattle.hx_session.specs.Decided.{HasPassed}
 use Rattle.hx_session.proofs.answers.after_pass.Goals as goal
 
 pub returns-then-closing-clause-told : goal.returns-then-closing-clause-told
@@ -22,3 +24,9 @@ returns-else-closing-clause-told g c = λ d e is gives told.
 
 pub returns-then-closing-clause-rests : goal.returns-then-closing-clause-rests
 returns-then-closing-clause-rests g c = subst (λ (x : Came g.row.L.Denot). RestsSo x c.args.held c.args.served) (sym c.leave_after.ensures) (refl, refl)
+
+pub returns-then-closing-clause-moved : goal.returns-then-closing-clause-moved
+returns-then-closing-clause-moved g c = subst (λ (x : Came g.row.L.Denot). HasMoved x) (sym c.leave_after.ensures) tt
+
+pub returns-then-closing-clause-passed : goal.returns-then-closing-clause-passed
+returns-then-closing-clause-passed g c = subst (λ (x : Came g.row.L.Denot). HasPassed x c.args.served) (sym c.leave_after.ensures) refl

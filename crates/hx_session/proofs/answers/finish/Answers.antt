@@ -10,6 +10,12 @@ use Rattle.hx_connecting.specs.Sessions.{Exchanging as OnConn}
 use Rattle.hx_session.proofs.RestLemmas.{rest_routed}
 use Rattle.hx_session.proofs.RestWays.{rests_came}
 use Rattle.hx_session.proofs.StandingLemmas.{place_in, place_then}
+use Rattle.hx_session.proofs.DecidedLemmas.{cut_decides, passed_decides}
+use Rattle.hx_session.specs.Causes.{early}
+use Rattle.hx_record.specs.declared.served.CutCause.TheVariants as cut
+use Rattle.hx_record.specs.declared.served.Served.{Served}
+use Rattle.hx_session.specs.Over.{carried_of}
+use Rattle.hx_session.specs.Stages.{Exchanging}
 use Rattle.hx_session.proofs.answers.finish.Goals as goal
 
 pub pass-held-requires-clause-over : goal.pass-held-requires-clause-over
@@ -52,4 +58,13 @@ returns g c =
         told = c.after_pass.ensures.told d0 (exchange_now c.args.exchange) c.is_closing-closing.ensures passed.gives passed.told;
       };
       rooms = passed.rooms;
+      moved = c.after_pass.ensures.moved;
+      decides = λ limits moment. passed_decides limits moment d0 d2 (Exchanging (exchange_now c.args.exchange)) net0 net1 c.after_pass.result c.pass-held.result.0 (carried_of (exchange_now c.args.exchange) passed.gives.took_to)
+          (ap (λ (r : Served). r.kind) passed.gives.gives.served) c.after_pass.ensures.passed;
     }
+
+pub returns-then-is_early-clause-decides : goal.returns-then-is_early-clause-decides
+returns-then-is_early-clause-decides g c = λ limits moment.
+    let d : DeskNow = desk_now g.L.Link.state c.args.desk.now in
+    let d2 : DeskNow = desk_now g.L.Link.state c.cut.new.desk in
+    cut_decides limits moment d d d2 (exchange_now c.args.exchange) (g.N.Net.state c.args.net.now) (g.N.Net.state c.cut.new.net) cut.Early c.cut.result (λ front. early) c.cut.ensures.cuts

@@ -15,5 +15,5 @@ returns-then-len-eq0 g c = record {
 
 pub returns-then-len-eq0-2 : goal.returns-then-len-eq0-2
 returns-then-len-eq0-2 g c =
-    at_end (desk_now g.L.Link.state c.args.desk.now) (exchange_now c.args.exchange.now) c.args.body.now c.next_at_end.result c.requires.body
+    at_end (desk_now g.L.Link.state c.args.desk.now) (exchange_now c.args.exchange.now) c.args.body.now c.next_at_end.result c.requires.body c.in-Going.is
     (nil_from_length _ (sym c.len-in-Going.ensures.len ∙ c.if-len-eq0-2.true)) c.next_at_end.ensures

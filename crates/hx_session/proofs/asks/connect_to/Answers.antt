@@ -40,4 +40,5 @@ returns g c =
         told = a.told;
       };
       rooms = k.rooms;
+      own = a.own;
     }

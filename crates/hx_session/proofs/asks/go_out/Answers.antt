@@ -22,4 +22,5 @@ pub returns-in-None : goal.returns-in-None
 returns-in-None g c = record {
   comes = c.refuse.ensures.comes (map g.S.HasHistory.history c.args.seats.now) (g.N.Net.state c.args.net.now) c.requires.placed;
   rooms = rooms_none g.S.HasHistory.history (room_of g.S.HasHistory.kept_from g.S.HasHistory.spare) c.args.seats.now;
+  own = c.refuse.ensures.own;
 }

@@ -6,6 +6,7 @@ use Rattle.hx_session.specs.declared.step.Waiting.TheVariants.{Nothing}
 use Rattle.hx_session.proofs.PartLemmas.{goes_answering}
 use Rattle.hx_session.proofs.TellLemmas.{answers_none}
 use Rattle.hx_session.proofs.OwnLemmas.{unavailable_text}
+use Rattle.hx_session.proofs.DecidedLemmas.{own_stage_is}
 use Rattle.hx_session.proofs.asks.refuse.Goals as goal
 
 pub answer-requires-clause-known : goal.answer-requires-clause-known
@@ -27,4 +28,5 @@ returns g c = record {
         routed = k.routed;
         told = none;
       };
+  own = own_stage_is _ 503 c.args.choosing.held c.answer.ensures.stage;
 }

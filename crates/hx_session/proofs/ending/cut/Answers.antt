@@ -1,3 +1,4 @@
+use Rattle.std.proofs.Common.{◌∙◌}
 use Rattle.std.proofs.Common.{List, map, refl, sym, ap, subst, inr, Some}
 use Rattle.hx_pool.specs.SeatView.{History}
 use Rattle.hx_connecting.specs.Outcomes.{Leaving}
@@ -13,6 +14,11 @@ use Rattle.hx_session.specs.Exchanged.{exchange_now, ExchangeNow}
 use Rattle.hx_session.specs.declared.stage.Came.{Came}
 use Rattle.hx_session.specs.Ending.{EndsInCut}
 use Rattle.hx_session.proofs.PickLemmas.{never_none}
+use Rattle.hx_session.specs.Still.{HasMoved}
+use Rattle.hx_session.proofs.DecidedLemmas.{closes_buries}
+use Rattle.hx_session.specs.Decided.{CutsAs}
+use Rattle.hx_session.specs.Over.{carried_of}
+use Rattle.hx_record.specs.declared.served.Served.{Served}
 use Rattle.hx_session.proofs.ending.cut.Goals as goal
 
 pub returns-clause-ends : goal.returns-clause-ends
@@ -42,3 +48,24 @@ returns-clause-goes g c =
     (inr (record { touch = w.touch; may = inr refl; counts = tt; at = w.at; way = w.way }))
     (cut_told d d1 d2 e c.args.cause c.cut_off-served.result c.requires.ends k.cuts is)
     (λ none. never_none e.busy none _ _ _)
+
+pub returns-clause-moved : goal.returns-clause-moved
+returns-clause-moved g c = subst (λ (x : Came g.row.L.Denot). HasMoved x) (sym c.leave_after.ensures) tt
+
+pub returns-clause-cuts : goal.returns-clause-cuts
+returns-clause-cuts g c =
+    let f = g.S.HasHistory.history in
+    let d : DeskNow = desk_now g.L.Link.state c.args.desk.now in
+    let d2 : DeskNow = desk_now g.L.Link.state c.drop_waiting.new.self in
+    let e : ExchangeNow = exchange_now c.args.exchange in
+    let net = g.N.Net.state c.args.net.now in
+    let net2 = g.N.Net.state c.cut_off-served.new.net in
+    let k = c.cut_off-served.ensures in
+    let client = ap (λ (x : DeskNow). x.client) c.drop_waiting.ensures ∙ ap (λ (x : DeskNow). x.client) k.cuts.desk in
+    subst (λ (x : Came g.row.L.Denot). CutsAs d e.busy net c.args.cause d2 x net2) (sym c.leave_after.ensures) (
+      (c.cut_off-served.result, carried_of e k.cuts.took_to, c.args.cause, refl, ap (λ (r : Served). r.kind) k.cuts.served, refl),
+      refl,
+      client,
+      k.meaning,
+      closes_buries e.busy d.session (map f c.args.seats.now) (map f c.cut_off-served.new.seats) net net2 k.meaning k.closes,
+    )

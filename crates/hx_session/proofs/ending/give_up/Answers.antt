@@ -14,6 +14,8 @@ use Rattle.hx_session.proofs.StandingLemmas.{answers_keep, answers_set, gave_non
 use Rattle.hx_session.proofs.TellLemmas.{answers_none}
 use Rattle.hx_session.specs.Seen.{chosen_seen}
 use Rattle.hx_session.proofs.PickLemmas.{to_unchosen}
+use Rattle.hx_session.proofs.DecidedLemmas.{closes_buries}
+use Rattle.hx_session.specs.Seen.{own_seen}
 use Rattle.hx_session.proofs.ending.give_up.Goals as goal
 
 pub returns : goal.returns
@@ -47,4 +49,6 @@ returns g c =
         told = answers_none d d2 c.args.own.status a;
       };
       rooms = c.close_busy.ensures.rooms;
+      moved = tt;
+      gives = ((c.args.own.status, ap own_seen c.answer-stage.ensures.stage, refl), refl, c.close_busy.ensures.meaning, closes_buries b d.session (map f c.args.seats.now) news net net2 c.close_busy.ensures.meaning c.close_busy.ensures.closes);
     }

@@ -11,6 +11,7 @@ use Rattle.hx_session.proofs.LeavingLemmas.{own_leaves_by}
 use Rattle.hx_link.specs.Told.{LinkState}
 use Rattle.hx_record.specs.declared.served.Served.{Served}
 use Rattle.hx_session.specs.Owning.{CameOwn}
+use Rattle.hx_session.specs.Still.{HasMoved}
 use Rattle.hx_session.proofs.ending.leave_answering.Goals as goal
 
 pub tell_own-served-requires : goal.tell_own-served-requires
@@ -39,6 +40,7 @@ returns g c = record {
       let keeps = own_keeps d d1 d2 c.tell_own-served.ensures.next c.drop_waiting.ensures in
       let client = ap (λ (x : DeskNow). x.client) c.drop_waiting.ensures ∙ ap (λ (x : DeskNow). x.client) c.tell_own-served.ensures.next in
       subst (λ (x : Came g.row.L.Denot). CameLeaves limits moment d2 x) (sym c.leave_after.ensures) (own_leaves_by limits moment d d2 c.args.left client keeps.who.since c.requires.cause k);
+  moved = subst (λ (x : Came g.row.L.Denot). HasMoved x) (sym c.leave_after.ensures) tt;
   own =
       let d : DeskNow = desk_now g.L.Link.state c.args.desk.now in
       let d2 : DeskNow = desk_now g.L.Link.state c.drop_waiting.new.self in

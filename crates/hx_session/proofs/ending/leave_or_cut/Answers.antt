@@ -1,3 +1,5 @@
+use Rattle.std.proofs.Common.{None}
+use Rattle.hx_record.specs.declared.served.LeftCause.TheVariants as fault_cause
 use Rattle.std.proofs.Common.{List, map, refl, sym, ap, subst, ◌∙◌, inl, inr}
 use Rattle.hx_pool.specs.SeatView.{History}
 use Rattle.hx_connecting.specs.Journals.{room_of}
@@ -19,6 +21,12 @@ use Rattle.hx_session.specs.Exchanged.{exchange_now}
 use Rattle.hx_session.proofs.LeavingLemmas.{told_leaves}
 use Rattle.hx_session.specs.Seen.{own_seen}
 use Rattle.hx_session.proofs.OwningLemmas.{none_own, own_here}
+use Rattle.hx_session.specs.Still.{HasMoved}
+use Rattle.hx_session.proofs.DecidedLemmas.{answering_decides, cut_decides, ends_none, own_only}
+use Rattle.hx_session.specs.Decided.{CameDecides}
+use Rattle.hx_session.specs.Causes.{client}
+use Rattle.hx_record.specs.declared.served.CutCause.TheVariants as cut_cause
+use Rattle.hx_session.specs.Exchanged.{ExchangeNow}
 use Rattle.hx_session.proofs.ending.leave_or_cut.Goals as goal
 
 pub returns-in-Reading : goal.returns-in-Reading
@@ -34,6 +42,8 @@ returns-in-Reading g c =
       rooms = rooms_none g.S.HasHistory.history (room_of g.S.HasHistory.kept_from g.S.HasHistory.spare) c.args.seats.now;
       own = λ status taken k. absurd (none_own (own_seen (stage_now c.args.stage)) status (ap (λ (x : Stage g.row.L.Denot). own_seen (stage_now x)) c.in-Reading.is) k.1);
       left = λ limits moment. subst (λ (x : Came g.row.L.Denot). CameLeaves limits moment d x) (sym c.leave.ensures) c.requires.fault;
+      decides = λ limits moment d0 rose. subst (λ (x : Came g.row.L.Denot). CameDecides limits moment d0 (stage_now c.args.stage) net d x net) (sym c.leave.ensures) (ends_none {X = g.row.L.Denot} limits moment d0 (stage_now c.args.stage) net d net (record { cause = fault_cause.Fault; held = c.in-Reading.held; served = None }) refl);
+      moved = subst (λ (x : Came g.row.L.Denot). HasMoved x) (sym c.leave.ensures) tt;
       leaves = λ held e. subst (λ (x : Came g.row.L.Denot). IsEnding x) (sym c.leave.ensures) tt;
     }
 
@@ -50,6 +60,8 @@ returns-in-Choosing g c =
       rooms = rooms_none g.S.HasHistory.history (room_of g.S.HasHistory.kept_from g.S.HasHistory.spare) c.args.seats.now;
       own = λ status taken k. absurd (none_own (own_seen (stage_now c.args.stage)) status (ap (λ (x : Stage g.row.L.Denot). own_seen (stage_now x)) c.in-Choosing.is) k.1);
       left = λ limits moment. subst (λ (x : Came g.row.L.Denot). CameLeaves limits moment d x) (sym c.leave-in-Choosing.ensures) c.requires.fault;
+      decides = λ limits moment d0 rose. subst (λ (x : Came g.row.L.Denot). CameDecides limits moment d0 (stage_now c.args.stage) net d x net) (sym c.leave-in-Choosing.ensures) (ends_none {X = g.row.L.Denot} limits moment d0 (stage_now c.args.stage) net d net (record { cause = fault_cause.Fault; held = c.in-Choosing.field-0.held; served = None }) refl);
+      moved = subst (λ (x : Came g.row.L.Denot). HasMoved x) (sym c.leave-in-Choosing.ensures) tt;
       leaves = λ held e. subst (λ (x : Came g.row.L.Denot). IsEnding x) (sym c.leave-in-Choosing.ensures) tt;
     }
 
@@ -65,6 +77,9 @@ returns-in-Answering g c =
       rooms = rooms_none g.S.HasHistory.history (room_of g.S.HasHistory.kept_from g.S.HasHistory.spare) c.args.seats.now;
       own = λ status taken k. own_here c.in-Answering.answering.status status d.client.taken_count taken d2 c.leave_answering.result (sym (ap (λ (x : Stage g.row.L.Denot). own_seen (stage_now x)) c.in-Answering.is) ∙ k.1) k.0 c.leave_answering.ensures.own;
       left = λ limits moment. c.leave_answering.ensures.left limits moment c.requires.fault;
+      decides = λ limits moment d0 rose. subst (λ (x : Stage g.row.L.Denot). CameDecides limits moment d0 (stage_now x) net d2 c.leave_answering.result net) (sym c.in-Answering.is)
+          (answering_decides limits moment d0 d2 _ net net c.leave_answering.result c.leave_answering.ensures.moved (own_only _ _ d2 c.leave_answering.result c.leave_answering.ensures.own));
+      moved = c.leave_answering.ensures.moved;
       leaves = λ held e. absurd (answering_not _ held (sym (ap stage_now c.in-Answering.is) ∙ e));
     }
 
@@ -76,3 +91,13 @@ returns-in-Exchanging-clause-left g c = λ limits moment.
 
 pub returns-in-Exchanging-clause-own : goal.returns-in-Exchanging-clause-own
 returns-in-Exchanging-clause-own g c = λ status taken k. absurd (none_own (own_seen (stage_now c.args.stage)) status (ap (λ (x : Stage g.row.L.Denot). own_seen (stage_now x)) c.in-Exchanging.is) k.1)
+
+pub returns-in-Exchanging-clause-decides : goal.returns-in-Exchanging-clause-decides
+returns-in-Exchanging-clause-decides g c = λ limits moment d0 rose.
+    let d : DeskNow = desk_now g.L.Link.state c.args.desk.now in
+    let d2 : DeskNow = desk_now g.L.Link.state c.cut.new.desk in
+    let net = g.N.Net.state c.args.net.now in
+    let net2 = g.N.Net.state c.cut.new.net in
+    let e : ExchangeNow = exchange_now c.in-Exchanging.exchange in
+    subst (λ (x : Stage g.row.L.Denot). CameDecides limits moment d0 (stage_now x) net d2 c.cut.result net2) (sym c.in-Exchanging.is)
+    (cut_decides limits moment d0 d d2 e net net2 cut_cause.Client c.cut.result (λ front. client (inr (inl rose))) c.cut.ensures.cuts)

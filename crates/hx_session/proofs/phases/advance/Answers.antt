@@ -20,6 +20,8 @@ use Rattle.hx_session.specs.Picking.{or_chose}
 use Rattle.std.proofs.Common.{Option}
 use Rattle.hx_base.specs.declared.numbers.ServerNo.{ServerNo}
 use Rattle.hx_session.specs.Fits.{limits_with}
+use Rattle.hx_session.proofs.PausedLemmas.{begins_still, where_then}
+use Rattle.hx_session.specs.Still.{IsStill}
 use Rattle.hx_session.proofs.phases.advance.Goals as goal
 
 pub do_phase-came-requires-clause-routed : goal.do_phase-came-requires-clause-routed
@@ -205,3 +207,30 @@ returns-clause-own g c = λ status taken k.
     let chosen = c.take_turn-came.ensures.own status taken (desk_now g.L.Link.state c.move_to_server-came.new.desk) given in
     let read = c.move_from_client-came.ensures.own status taken (c.do_phase-came.ensures.own status taken chosen) in
     c.conclude.ensures.own status taken (c.move_from_server-came.ensures.own status taken read)
+
+pub returns-clause-still : goal.returns-clause-still
+returns-clause-still g c =
+    let state = g.L.Link.state in
+    let d : DeskNow = desk_now state c.args.desk.now in
+    let d1 : DeskNow = desk_now state c.meet_deadline-came.new.desk in
+    let s : StageNow = stage_now c.args.stage in
+    let moment = c.args.scene.now.0 in
+    let begun = where_then c.meet_deadline-came.result (λ t w. (d1 ≡ d) × (t ≡ s)) (λ t w. IsStill d s d1 t)
+    (λ t w q. subst (λ (x : DeskNow). IsStill d s x t) (sym q.0) (subst (λ (x : StageNow). IsStill d s d x) (sym q.1) (begins_still d s))) c.meet_deadline-came.ensures.still in
+    let sent = c.move_to_server-came.ensures.still d s (c.move_to_client-came.ensures.still d s begun) in
+    let chosen = c.take_turn-came.ensures.still d (desk_now state c.move_to_server-came.new.desk) s moment sent in
+    let idle = c.do_phase-came.ensures.still d s moment chosen in
+    c.conclude.ensures.still d s moment (c.move_from_server-came.ensures.still d s (c.move_from_client-came.ensures.still d s idle))
+
+pub returns-clause-decides : goal.returns-clause-decides
+returns-clause-decides g c =
+    let state = g.L.Link.state in
+    let limits = limits_with (Some c.args.scene.front.now) (Some c.args.scene.back.now) in
+    let moment = c.args.scene.now.0 in
+    let d : DeskNow = desk_now state c.args.desk.now in
+    let s : StageNow = stage_now c.args.stage in
+    let net : NetState = g.N.Net.state c.args.net.now in
+    let sent = c.move_to_server-came.ensures.decides limits moment d s net (c.move_to_client-came.ensures.decides limits moment d s net c.meet_deadline-came.ensures.decides) in
+    let chosen = c.take_turn-came.ensures.decides limits moment d (desk_now state c.move_to_server-came.new.desk) s net (g.N.Net.state c.move_to_server-came.new.net) sent in
+    let read = c.move_from_client-came.ensures.decides limits moment d s net (c.do_phase-came.ensures.decides limits moment d s net chosen) in
+    c.conclude.ensures.decides limits moment d s net (c.move_from_server-came.ensures.decides limits moment d s net read)

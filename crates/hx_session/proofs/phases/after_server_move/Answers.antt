@@ -1,4 +1,4 @@
-use Rattle.std.proofs.Common.{◌≡◌, List, map, refl, subst, inl}
+use Rattle.std.proofs.Common.{◌≡◌, List, map, refl, sym, subst, inl}
 use Rattle.hx_link.specs.Nets.{NetState}
 use Rattle.hx_pool.specs.SeatView.{History}
 use Rattle.hx_session.specs.declared.moves.Move.{Move}
@@ -17,6 +17,8 @@ use Rattle.hx_session.proofs.PartLemmas.{goes_moved, still_keeps}
 use Rattle.hx_session.proofs.StaysLemmas.{keeps_any}
 use Rattle.hx_session.specs.Seen.{conn_seen}
 use Rattle.hx_session.proofs.PickLemmas.{kind_self}
+use Rattle.hx_session.proofs.DecidedLemmas.{exchange_moved, failed_decides}
+use Rattle.hx_session.specs.Decided.{IsQuiet}
 use Rattle.hx_session.proofs.phases.after_server_move.Goals as goal
 
 idle_good : (m : Move) → m ≡ Idle → m ≡ Failed → ⊥
@@ -110,3 +112,23 @@ returns-in-Ended-clause-goes g c =
     let d : DeskNow = desk_now g.L.Link.state c.args.desk.now in
     let seats : List History = map g.S.HasHistory.history c.args.seats.now in
     goes_moved d (On c.args.exchange) c.args.call.1.waits seats (g.N.Net.state c.args.net.now) (record { set = c.requires.set; good = c.requires.good (ended_good c.args.call.0 c.in-Ended.is) })
+
+pub returns-in-Bytes-clause-decides : goal.returns-in-Bytes-clause-decides
+returns-in-Bytes-clause-decides g c = λ limits moment d e far. exchange_moved limits moment d e (exchange_now c.args.exchange) (g.N.Net.state c.args.net.now) (desk_now g.L.Link.state c.args.desk.now) (g.N.Net.state c.args.net.now)
+
+pub returns-in-Ended-clause-decides : goal.returns-in-Ended-clause-decides
+returns-in-Ended-clause-decides g c = λ limits moment d e far. exchange_moved limits moment d e (exchange_now c.args.exchange) (g.N.Net.state c.args.net.now) (desk_now g.L.Link.state c.args.desk.now) (g.N.Net.state c.args.net.now)
+
+pub returns-in-Idle-clause-decides : goal.returns-in-Idle-clause-decides
+returns-in-Idle-clause-decides g c = λ limits moment d e far. far (subst IsQuiet (sym c.in-Idle.is) tt)
+
+pub returns-in-Waits-clause-decides : goal.returns-in-Waits-clause-decides
+returns-in-Waits-clause-decides g c = λ limits moment d e far. far (subst IsQuiet (sym c.in-Waits.is) tt)
+
+pub returns-in-Failed-clause-decides : goal.returns-in-Failed-clause-decides
+returns-in-Failed-clause-decides g c = λ limits moment d e far.
+    let d1 : DeskNow = desk_now g.L.Link.state c.args.desk.now in
+    let d2 : DeskNow = desk_now g.L.Link.state c.lose_server.new.desk in
+    let e1 : ExchangeNow = exchange_now c.args.exchange in
+    let net : NetState = g.N.Net.state c.args.net.now in
+    failed_decides limits moment d d1 d2 e e1 net (g.N.Net.state c.lose_server.new.net) c.lose_server.result c.requires.set.stands (c.requires.failed c.in-Failed.is) (far (subst IsQuiet (sym c.in-Failed.is) tt)) c.lose_server.ensures.loses

@@ -1,4 +1,4 @@
-use Rattle.std.proofs.Common.{sym, subst}
+use Rattle.std.proofs.Common.{◌≡◌, true, false, sym, subst}
 use Rattle.hx_session.specs.Stages.{StageNow}
 use Rattle.hx_session.specs.Standing.{IsRoutedTo}
 use Rattle.std.proofs.Common.{List, map}
@@ -16,7 +16,14 @@ use Rattle.std.proofs.Common.{◌∙◌}
 use Rattle.hx_session.proofs.PickLemmas.{done_on, done_left}
 use Rattle.hx_session.specs.Leaving.{CameLeaves}
 use Rattle.hx_session.specs.Owning.{CameOwn}
+use Rattle.hx_session.specs.Still.{WhereOn}
+use Rattle.hx_session.specs.Waiting.{StandsStill}
+use Rattle.hx_session.proofs.DecidedLemmas.{done_stays}
+use Rattle.hx_session.specs.Decided.{CameDecides}
 use Rattle.hx_session.proofs.phases.conclude.Goals as goal
+
+true_false : true ≡ false → ⊥
+true_false e = cc
 
 pub returns-in-Ends-clause-routed : goal.returns-in-Ends-clause-routed
 returns-in-Ends-clause-routed g c = λ back r. subst (λ (x : StageNow). IsRoutedTo back x) (sym c.give_left.ensures.stage) (record { to_conn = tt; to_chosen = tt })
@@ -69,3 +76,28 @@ returns-in-Ends-clause-left g c = λ limits moment k. c.give_left.ensures.left l
 
 pub returns-in-Ends-clause-own : goal.returns-in-Ends-clause-own
 returns-in-Ends-clause-own g c = λ status taken k. c.give_left.ensures.own status taken (subst (λ (x : Came g.row.L.Denot). CameOwn status taken (desk_now g.L.Link.state c.args.desk.now) x) c.in-Ends.is k)
+
+pub returns-in-On-clause-still : goal.returns-in-On-clause-still
+returns-in-On-clause-still g c = λ d0 s0 moment k is. subst (λ (x : Came g.row.L.Denot). WhereOn x (λ s w. StandsStill d0 s0 (desk_now g.L.Link.state c.args.desk.now) s moment)) c.in-On.is k
+
+pub returns-in-Ends-clause-still : goal.returns-in-Ends-clause-still
+returns-in-Ends-clause-still g c = λ d0 s0 moment k is. absurd (true_false (sym c.give_left.ensures.moved ∙ is))
+
+pub returns-in-On-clause-decides : goal.returns-in-On-clause-decides
+returns-in-On-clause-decides g c = λ limits moment d0 s0 net0 k.
+    let d : DeskNow = desk_now g.L.Link.state c.args.desk.now in
+    let net : NetState = g.N.Net.state c.args.net.now in
+    done_stays limits moment d0 s0 net0 d (stage_now c.in-On.stage) net (subst (λ (x : Came g.row.L.Denot). CameDecides limits moment d0 s0 net0 d x net) c.in-On.is k)
+
+pub returns-in-Moved-clause-decides : goal.returns-in-Moved-clause-decides
+returns-in-Moved-clause-decides g c = λ limits moment d0 s0 net0 k.
+    let d : DeskNow = desk_now g.L.Link.state c.args.desk.now in
+    let net : NetState = g.N.Net.state c.args.net.now in
+    let x = subst (λ (x : Came g.row.L.Denot). CameDecides limits moment d0 s0 net0 d x net) c.in-Moved.is k in
+    record { own = x.0; cut = x.1 }
+
+pub returns-in-Ends-clause-decides : goal.returns-in-Ends-clause-decides
+returns-in-Ends-clause-decides g c = λ limits moment d0 s0 net0 k.
+    let d : DeskNow = desk_now g.L.Link.state c.args.desk.now in
+    let net : NetState = g.N.Net.state c.args.net.now in
+    c.give_left.ensures.decides limits moment d0 s0 net0 (subst (λ (x : Came g.row.L.Denot). CameDecides limits moment d0 s0 net0 d x net) c.in-Ends.is k)

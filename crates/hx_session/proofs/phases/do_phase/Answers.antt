@@ -14,6 +14,10 @@ use Rattle.hx_session.specs.Picking.{Picks}
 use Rattle.hx_session.proofs.PickLemmas.{picks_then}
 use Rattle.hx_session.specs.First.{FreshOn}
 use Rattle.hx_session.specs.Owning.{CameOwn}
+use Rattle.hx_session.specs.Still.{WhereOn}
+use Rattle.hx_session.specs.Waiting.{PausedOrChosen}
+use Rattle.hx_session.proofs.DecidedLemmas.{came_from}
+use Rattle.hx_session.specs.Decided.{CameDecides}
 use Rattle.hx_session.proofs.phases.do_phase.Goals as goal
 
 pub returns-clause-told : goal.returns-clause-told
@@ -52,3 +56,15 @@ returns-clause-left g c = λ limits moment k. c.do_stage.ensures.left limits mom
 
 pub returns-clause-own : goal.returns-clause-own
 returns-clause-own g c = λ status taken k. c.do_stage.ensures.own status taken (subst (λ (x : Came g.row.L.Denot). CameOwn status taken (desk_now g.L.Link.state c.args.desk.now) x) c.in-On.is k)
+
+pub returns-clause-still : goal.returns-clause-still
+returns-clause-still g c = λ d0 s0 moment k.
+    let d : DeskNow = desk_now g.L.Link.state c.args.desk.now in
+    c.do_stage.ensures.still d0 s0 moment (subst (λ (x : Came g.row.L.Denot). WhereOn x (λ s w. PausedOrChosen d0 s0 d s moment)) c.in-On.is k)
+
+pub returns-clause-decides : goal.returns-clause-decides
+returns-clause-decides g c = λ limits moment d0 s0 net0 k.
+    let d : DeskNow = desk_now g.L.Link.state c.args.desk.now in
+    let d2 : DeskNow = desk_now g.L.Link.state c.do_stage.new.desk in
+    let net : NetState = g.N.Net.state c.args.net.now in
+    came_from limits moment d0 d d2 s0 (stage_now c.in-On.stage) net0 net (g.N.Net.state c.do_stage.new.net) c.do_stage.result (subst (λ (x : Came g.row.L.Denot). CameDecides limits moment d0 s0 net0 d x net) c.in-On.is k) (c.do_stage.ensures.decides limits moment)

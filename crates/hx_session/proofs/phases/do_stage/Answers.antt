@@ -16,6 +16,12 @@ use Rattle.hx_session.specs.Exchanged.{exchange_now}
 use Rattle.hx_session.proofs.LeavingLemmas.{told_leaves}
 use Rattle.hx_session.specs.Seen.{own_seen}
 use Rattle.hx_session.proofs.OwningLemmas.{none_own, own_here}
+use Rattle.hx_session.proofs.PausedLemmas.{phase_idle}
+use Rattle.hx_session.specs.Waiting.{PausedOrChosen}
+use Rattle.hx_session.specs.Stages.{Reading as Wanting, Exchanging as Carrying, stage_of_answering}
+use Rattle.hx_session.specs.Standing.{IsGood}
+use Rattle.hx_session.proofs.DecidedLemmas.{own_moved, unserved_answer, not_there}
+use Rattle.hx_session.specs.Decided.{CameDecides}
 use Rattle.hx_session.proofs.phases.do_stage.Goals as goal
 
 pub returns-in-Reading : goal.returns-in-Reading
@@ -30,6 +36,8 @@ returns-in-Reading g c =
       goes = subst (λ (x : Stage g.row.L.Denot). Goes d (stage_now x) seats net d2 c.read_head.result seats net) (sym c.in-Reading.is) (c.read_head.ensures.goes seats net p);
       rooms = rooms_none g.S.HasHistory.history (room_of g.S.HasHistory.kept_from g.S.HasHistory.spare) c.args.seats.now;
       own = λ status taken k. absurd (none_own (own_seen (stage_now c.args.stage)) status (ap (λ (x : Stage g.row.L.Denot). own_seen (stage_now x)) c.in-Reading.is) k.1);
+      still = λ d0 s0 moment k. phase_idle d0 d d2 s0 (Wanting c.in-Reading.held) moment c.read_head.result (subst (λ (x : Stage g.row.L.Denot). PausedOrChosen d0 s0 d (stage_now x) moment) c.in-Reading.is k) c.read_head.ensures.still;
+      decides = λ limits moment. subst (λ (x : Stage g.row.L.Denot). CameDecides limits moment d (stage_now x) net d2 c.read_head.result net) (sym c.in-Reading.is) (c.read_head.ensures.decides limits moment net);
       left = c.read_head.ensures.left;
       first = λ l x. c.read_head.ensures.first l (subst (λ (y : Stage g.row.L.Denot). IsFresh l d (stage_now y)) c.in-Reading.is x);
     }
@@ -46,6 +54,8 @@ returns-in-Answering g c =
       goes = subst (λ (x : Stage g.row.L.Denot). Goes d (stage_now x) seats net d2 c.end_answering.result seats net) (sym c.in-Answering.is) (c.end_answering.ensures.goes seats net p);
       rooms = rooms_none g.S.HasHistory.history (room_of g.S.HasHistory.kept_from g.S.HasHistory.spare) c.args.seats.now;
       own = λ status taken k. own_here c.in-Answering.answering.status status d.client.taken_count taken d2 c.end_answering.result (sym (ap (λ (x : Stage g.row.L.Denot). own_seen (stage_now x)) c.in-Answering.is) ∙ k.1) k.0 c.end_answering.ensures.own;
+      still = λ d0 s0 moment k. phase_idle d0 d d2 s0 (stage_of_answering c.in-Answering.answering) moment c.end_answering.result (subst (λ (x : Stage g.row.L.Denot). PausedOrChosen d0 s0 d (stage_now x) moment) c.in-Answering.is k) c.end_answering.ensures.still;
+      decides = λ limits moment. subst (λ (x : Stage g.row.L.Denot). CameDecides limits moment d (stage_now x) net d2 c.end_answering.result net) (sym c.in-Answering.is) (c.end_answering.ensures.decides limits moment net);
       left = c.end_answering.ensures.left;
       first = λ l x. absurd (answering_not _ x.held (sym (ap stage_now c.in-Answering.is) ∙ x.is));
     }
@@ -73,3 +83,29 @@ returns-in-Choosing-clause-own g c = λ status taken k. absurd (none_own (own_se
 
 pub returns-in-Exchanging-clause-own : goal.returns-in-Exchanging-clause-own
 returns-in-Exchanging-clause-own g c = λ status taken k. absurd (none_own (own_seen (stage_now c.args.stage)) status (ap (λ (x : Stage g.row.L.Denot). own_seen (stage_now x)) c.in-Exchanging.is) k.1)
+
+pub returns-in-Exchanging-clause-still : goal.returns-in-Exchanging-clause-still
+returns-in-Exchanging-clause-still g c = λ d0 s0 moment k.
+    let d : DeskNow = desk_now g.L.Link.state c.args.desk.now in
+    let d2 : DeskNow = desk_now g.L.Link.state c.go_on.new.desk in
+    phase_idle d0 d d2 s0 (Carrying (exchange_now c.in-Exchanging.exchange)) moment c.go_on.result (subst (λ (x : Stage g.row.L.Denot). PausedOrChosen d0 s0 d (stage_now x) moment) c.in-Exchanging.is k) c.go_on.ensures.still
+
+pub returns-in-Left-clause-still : goal.returns-in-Left-clause-still
+returns-in-Left-clause-still g c = λ d0 s0 moment k. absurd (subst (λ (x : Stage g.row.L.Denot). IsGood (stage_now x)) c.in-Left.is c.requires.placed.good)
+
+pub returns-in-Exchanging-clause-decides : goal.returns-in-Exchanging-clause-decides
+returns-in-Exchanging-clause-decides g c = λ limits moment.
+    let d : DeskNow = desk_now g.L.Link.state c.args.desk.now in
+    let d2 : DeskNow = desk_now g.L.Link.state c.go_on.new.desk in
+    subst (λ (x : Stage g.row.L.Denot). CameDecides limits moment d (stage_now x) (g.N.Net.state c.args.net.now) d2 c.go_on.result (g.N.Net.state c.go_on.new.net)) (sym c.in-Exchanging.is) (c.go_on.ensures.decides limits moment)
+
+pub returns-in-Choosing-clause-decides : goal.returns-in-Choosing-clause-decides
+returns-in-Choosing-clause-decides g c = λ limits moment.
+    let d : DeskNow = desk_now g.L.Link.state c.args.desk.now in
+    let d2 : DeskNow = desk_now g.L.Link.state c.go_out-stage.new.desk in
+    let net : NetState = g.N.Net.state c.args.net.now in
+    let net2 : NetState = g.N.Net.state c.go_out-stage.new.net in
+    own_moved limits moment d (stage_now c.args.stage) net d2 net2 c.go_out-stage.result 503 c.go_out-stage.ensures.own (unserved_answer limits moment d (stage_now c.args.stage) net net2)
+
+pub returns-in-Left-clause-decides : goal.returns-in-Left-clause-decides
+returns-in-Left-clause-decides g c = λ limits moment. not_there limits moment (desk_now g.L.Link.state c.args.desk.now) (stage_now c.args.stage) (g.N.Net.state c.args.net.now) _ (ap stage_now c.in-Left.is)

@@ -10,6 +10,9 @@ use Rattle.hx_session.proofs.PartingLemmas.{leaves_then}
 use Rattle.hx_session.proofs.PickLemmas.{closes_none}
 use Rattle.hx_session.specs.Leaving.{LeavesBy}
 use Rattle.hx_session.proofs.LeavingLemmas.{loose_leaves}
+use Rattle.hx_session.proofs.DecidedLemmas.{done_leaves}
+use Rattle.hx_session.specs.Decided.{DoneDecides}
+use Rattle.hx_session.proofs.DecidedLemmas.{lets_bury}
 use Rattle.hx_session.proofs.phases.give_left.Goals as goal
 
 pub returns-clause-told : goal.returns-clause-told
@@ -42,3 +45,9 @@ returns-clause-left g c = λ limits moment k.
 
 pub returns-clause-own : goal.returns-clause-own
 returns-clause-own g c = λ status taken k. (ap (λ (l : LinkState). l.taken_count) c.let_go.ensures.client ∙ k.0, inr k.1)
+
+pub returns-clause-decides : goal.returns-clause-decides
+returns-clause-decides g c = λ limits moment d0 s0 net0 k.
+    let d : DeskNow = desk_now g.L.Link.state c.args.desk.now in
+    let d2 : DeskNow = desk_now g.L.Link.state c.let_go.new.desk in
+    done_leaves limits moment d0 s0 net0 d d2 (g.N.Net.state c.args.net.now) (g.N.Net.state c.let_go.new.net) c.args.ending.held c.args.ending.served k.0 k.1 (λ none. lets_bury _ _ _ _ _ _ _ _ none c.let_go.ensures.closes) c.let_go.ensures.client

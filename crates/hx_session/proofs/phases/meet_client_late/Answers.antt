@@ -1,4 +1,4 @@
-use Rattle.std.proofs.Common.{List, map, sym, subst, ap, ◌∙◌}
+use Rattle.std.proofs.Common.{◌≡◌, List, map, sym, subst, ap, ◌∙◌}
 use Rattle.hx_pool.specs.SeatView.{History}
 use Rattle.hx_connecting.specs.Journals.{room_of}
 use Rattle.hx_connecting.proofs.RoomLemmas.{rooms_none}
@@ -10,6 +10,11 @@ use Rattle.hx_session.specs.Exchanged.{exchange_now}
 use Rattle.hx_session.proofs.LeavingLemmas.{told_leaves}
 use Rattle.hx_session.specs.Seen.{own_seen}
 use Rattle.hx_session.proofs.OwningLemmas.{none_own, own_here}
+use Rattle.hx_session.proofs.PausedLemmas.{moved_where}
+use Rattle.hx_session.specs.Stages.{StageNow}
+use Rattle.hx_session.proofs.DecidedLemmas.{answering_decides, own_only}
+use Rattle.hx_session.specs.Decided.{CameDecides, ClientComes}
+use Rattle.hx_session.proofs.DecidedLemmas.{not_reading, not_there}
 use Rattle.hx_session.proofs.phases.meet_client_late.Goals as goal
 
 pub returns-in-Reading : goal.returns-in-Reading
@@ -24,6 +29,9 @@ returns-in-Reading g c =
       goes = subst (λ (x : Stage g.row.L.Denot). Goes d (stage_now x) seats net d2 c.read_late.result seats net) (sym c.in-Reading.is) (c.read_late.ensures.goes seats net p);
       rooms = rooms_none g.S.HasHistory.history (room_of g.S.HasHistory.kept_from g.S.HasHistory.spare) c.args.seats.now;
       own = λ status taken k. absurd (none_own (own_seen (stage_now c.args.stage)) status (ap (λ (x : Stage g.row.L.Denot). own_seen (stage_now x)) c.in-Reading.is) k.1);
+      still = moved_where c.read_late.result (λ s w. (d2 ≡ d) × (s ≡ stage_now c.args.stage)) c.read_late.ensures.moved;
+      decides = λ limits moment comes is. subst (λ (x : Stage g.row.L.Denot). CameDecides limits moment d (stage_now x) net d2 c.read_late.result net) (sym c.in-Reading.is)
+          (c.read_late.ensures.decides limits moment net (subst (λ (x : Stage g.row.L.Denot). ClientComes limits moment d (stage_now x)) c.in-Reading.is comes) is);
       left = λ limits moment k. c.read_late.ensures.left limits moment k;
     }
 
@@ -39,6 +47,9 @@ returns-in-Choosing g c =
       goes = subst (λ (x : Stage g.row.L.Denot). Goes d (stage_now x) seats net d2 c.choose_late.result seats net) (sym c.in-Choosing.is) (c.choose_late.ensures.goes seats net p);
       rooms = rooms_none g.S.HasHistory.history (room_of g.S.HasHistory.kept_from g.S.HasHistory.spare) c.args.seats.now;
       own = λ status taken k. absurd (none_own (own_seen (stage_now c.args.stage)) status (ap (λ (x : Stage g.row.L.Denot). own_seen (stage_now x)) c.in-Choosing.is) k.1);
+      still = moved_where c.choose_late.result (λ s w. (d2 ≡ d) × (s ≡ stage_now c.args.stage)) c.choose_late.ensures.moved;
+      decides = λ limits moment comes is. subst (λ (x : Stage g.row.L.Denot). CameDecides limits moment d (stage_now x) net d2 c.choose_late.result net) (sym c.in-Choosing.is)
+          (c.choose_late.ensures.decides limits moment net (not_reading limits moment d (stage_now c.args.stage) _ (ap stage_now c.in-Choosing.is) (λ held z. cc) comes) is);
       left = λ limits moment k. c.choose_late.ensures.left limits moment;
     }
 
@@ -54,6 +65,9 @@ returns-in-Answering g c =
       goes = subst (λ (x : Stage g.row.L.Denot). Goes d (stage_now x) seats net d2 c.leave_answering.result seats net) (sym c.in-Answering.is) (c.leave_answering.ensures.goes seats net p);
       rooms = rooms_none g.S.HasHistory.history (room_of g.S.HasHistory.kept_from g.S.HasHistory.spare) c.args.seats.now;
       own = λ status taken k. own_here c.in-Answering.answering.status status d.client.taken_count taken d2 c.leave_answering.result (sym (ap (λ (x : Stage g.row.L.Denot). own_seen (stage_now x)) c.in-Answering.is) ∙ k.1) k.0 c.leave_answering.ensures.own;
+      still = moved_where c.leave_answering.result (λ s w. (d2 ≡ d) × (s ≡ stage_now c.args.stage)) c.leave_answering.ensures.moved;
+      decides = λ limits moment comes is. subst (λ (x : Stage g.row.L.Denot). CameDecides limits moment d (stage_now x) net d2 c.leave_answering.result net) (sym c.in-Answering.is)
+          (answering_decides limits moment d d2 _ net net c.leave_answering.result c.leave_answering.ensures.moved (own_only _ _ d2 c.leave_answering.result c.leave_answering.ensures.own));
       left = λ limits moment k. c.leave_answering.ensures.left limits moment k;
     }
 
@@ -65,3 +79,19 @@ returns-in-Exchanging-clause-left g c = λ limits moment k.
 
 pub returns-in-Exchanging-clause-own : goal.returns-in-Exchanging-clause-own
 returns-in-Exchanging-clause-own g c = λ status taken k. absurd (none_own (own_seen (stage_now c.args.stage)) status (ap (λ (x : Stage g.row.L.Denot). own_seen (stage_now x)) c.in-Exchanging.is) k.1)
+
+pub returns-in-Exchanging-clause-still : goal.returns-in-Exchanging-clause-still
+returns-in-Exchanging-clause-still g c =
+    let d : DeskNow = desk_now g.L.Link.state c.args.desk.now in
+    let d2 : DeskNow = desk_now g.L.Link.state c.cut_late.new.desk in
+    moved_where c.cut_late.result (λ s w. (d2 ≡ d) × (s ≡ stage_now c.args.stage)) c.cut_late.ensures.moved
+
+pub returns-in-Exchanging-clause-decides : goal.returns-in-Exchanging-clause-decides
+returns-in-Exchanging-clause-decides g c = λ limits moment comes is.
+    let d : DeskNow = desk_now g.L.Link.state c.args.desk.now in
+    let d2 : DeskNow = desk_now g.L.Link.state c.cut_late.new.desk in
+    subst (λ (x : Stage g.row.L.Denot). CameDecides limits moment d (stage_now x) (g.N.Net.state c.args.net.now) d2 c.cut_late.result (g.N.Net.state c.cut_late.new.net)) (sym c.in-Exchanging.is)
+    (c.cut_late.ensures.decides limits moment (not_reading limits moment d (stage_now c.args.stage) _ (ap stage_now c.in-Exchanging.is) (λ held z. cc) comes) is)
+
+pub returns-in-Left-clause-decides : goal.returns-in-Left-clause-decides
+returns-in-Left-clause-decides g c = λ limits moment comes is. not_there limits moment (desk_now g.L.Link.state c.args.desk.now) (stage_now c.args.stage) (g.N.Net.state c.args.net.now) _ (ap stage_now c.in-Left.is)

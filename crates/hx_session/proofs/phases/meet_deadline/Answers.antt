@@ -12,6 +12,7 @@ use Rattle.hx_connecting.proofs.RoomLemmas.{rooms_none}
 use Rattle.hx_session.specs.Seen.{conn_seen}
 use Rattle.hx_session.proofs.PickLemmas.{kind_self}
 use Rattle.hx_session.proofs.FirstLemmas.{fresh_desk, fresh_late}
+use Rattle.hx_session.proofs.DecidedLemmas.{far_same}
 use Rattle.hx_session.proofs.phases.meet_deadline.Goals as goal
 
 pub returns-in-None : goal.returns-in-None
@@ -34,5 +35,7 @@ returns-in-None g c =
       rooms = rooms_none g.S.HasHistory.history (room_of g.S.HasHistory.kept_from g.S.HasHistory.spare) c.args.seats.now;
       own = λ status taken k. (ap (λ (x : DeskNow). x.client.taken_count) same ∙ k.0, k.1);
       left = tt;
+      still = (same, refl);
+      decides = far_same d d2 s s net same refl;
       first = λ f one. inl (fresh_desk (g.L.Link.state c.args.desk.now.client) d d2 s same f);
     }

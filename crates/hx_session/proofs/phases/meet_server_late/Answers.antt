@@ -1,6 +1,6 @@
 use Rattle.hx_connecting.specs.Journals.{room_of}
 use Rattle.hx_connecting.proofs.RoomLemmas.{rooms_none}
-use Rattle.std.proofs.Common.{refl, sym, subst, List, map, ap}
+use Rattle.std.proofs.Common.{◌≡◌, refl, sym, subst, List, map, ap}
 use Rattle.hx_pool.specs.SeatView.{History}
 use Rattle.hx_session.specs.declared.stage.Stage.{Stage}
 use Rattle.hx_session.specs.declared.stage.Stage.TheVariants.{Choosing, Answering}
@@ -14,6 +14,10 @@ use Rattle.hx_session.specs.Exchanged.{exchange_now}
 use Rattle.hx_session.proofs.LeavingLemmas.{told_leaves}
 use Rattle.hx_session.specs.Seen.{own_seen}
 use Rattle.hx_session.proofs.OwningLemmas.{none_own}
+use Rattle.hx_session.proofs.PausedLemmas.{moved_where}
+use Rattle.hx_session.proofs.DecidedLemmas.{late_decides, not_there}
+use Rattle.hx_session.specs.Decided.{CameDecides}
+use Rattle.hx_session.specs.Stages.{StandsSo}
 use Rattle.hx_session.proofs.phases.meet_server_late.Goals as goal
 
 pub returns-in-Reading-clause-rooms : goal.returns-in-Reading-clause-rooms
@@ -51,3 +55,38 @@ returns-in-Exchanging-clause-left g c = λ limits moment.
 
 pub returns-in-Exchanging-clause-own : goal.returns-in-Exchanging-clause-own
 returns-in-Exchanging-clause-own g c = λ status taken k. absurd (none_own (own_seen (stage_now c.args.stage)) status (ap (λ (x : Stage g.row.L.Denot). own_seen (stage_now x)) c.in-Exchanging.is) k.1)
+
+pub returns-in-Exchanging-clause-still : goal.returns-in-Exchanging-clause-still
+returns-in-Exchanging-clause-still g c =
+    let d : DeskNow = desk_now g.L.Link.state c.args.desk.now in
+    let d2 : DeskNow = desk_now g.L.Link.state c.end_by_server.new.desk in
+    moved_where c.end_by_server.result (λ s w. (d2 ≡ d) × (s ≡ stage_now c.args.stage)) c.end_by_server.ensures.moved
+
+pub returns-in-Reading-clause-still : goal.returns-in-Reading-clause-still
+returns-in-Reading-clause-still g c = (refl, sym (ap stage_now c.in-Reading.is))
+
+pub returns-in-Choosing-clause-still : goal.returns-in-Choosing-clause-still
+returns-in-Choosing-clause-still g c = (refl, sym (ap stage_now c.in-Choosing.is))
+
+pub returns-in-Answering-clause-still : goal.returns-in-Answering-clause-still
+returns-in-Answering-clause-still g c = (refl, sym (ap stage_now c.in-Answering.is))
+
+pub returns-in-Exchanging-clause-decides : goal.returns-in-Exchanging-clause-decides
+returns-in-Exchanging-clause-decides g c = λ limits moment late.
+    let d : DeskNow = desk_now g.L.Link.state c.args.desk.now in
+    let d2 : DeskNow = desk_now g.L.Link.state c.end_by_server.new.desk in
+    let carried = subst (λ (x : Stage g.row.L.Denot). StandsSo d (stage_now x)) c.in-Exchanging.is c.requires.placed.set.stands in
+    subst (λ (x : Stage g.row.L.Denot). CameDecides limits moment d (stage_now x) (g.N.Net.state c.args.net.now) d2 c.end_by_server.result (g.N.Net.state c.end_by_server.new.net)) (sym c.in-Exchanging.is)
+    (late_decides limits moment d d2 (exchange_now c.in-Exchanging.exchange) (g.N.Net.state c.args.net.now) (g.N.Net.state c.end_by_server.new.net) c.args.own.status c.end_by_server.result carried late c.end_by_server.ensures.by_server)
+
+pub returns-in-Reading-clause-decides : goal.returns-in-Reading-clause-decides
+returns-in-Reading-clause-decides g c = λ limits moment late. not_there limits moment (desk_now g.L.Link.state c.args.desk.now) (stage_now c.args.stage) (g.N.Net.state c.args.net.now) _ (ap stage_now c.in-Reading.is)
+
+pub returns-in-Choosing-clause-decides : goal.returns-in-Choosing-clause-decides
+returns-in-Choosing-clause-decides g c = λ limits moment late. not_there limits moment (desk_now g.L.Link.state c.args.desk.now) (stage_now c.args.stage) (g.N.Net.state c.args.net.now) _ (ap stage_now c.in-Choosing.is)
+
+pub returns-in-Answering-clause-decides : goal.returns-in-Answering-clause-decides
+returns-in-Answering-clause-decides g c = λ limits moment late. not_there limits moment (desk_now g.L.Link.state c.args.desk.now) (stage_now c.args.stage) (g.N.Net.state c.args.net.now) _ (ap stage_now c.in-Answering.is)
+
+pub returns-in-Left-clause-decides : goal.returns-in-Left-clause-decides
+returns-in-Left-clause-decides g c = λ limits moment late. not_there limits moment (desk_now g.L.Link.state c.args.desk.now) (stage_now c.args.stage) (g.N.Net.state c.args.net.now) _ (ap stage_now c.in-Left.is)

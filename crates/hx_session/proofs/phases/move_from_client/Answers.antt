@@ -15,6 +15,10 @@ use Rattle.hx_session.proofs.PickLemmas.{picks_then}
 use Rattle.hx_session.specs.First.{FreshOn}
 use Rattle.hx_session.specs.Owning.{CameOwn}
 use Rattle.hx_session.proofs.OwningLemmas.{wants_own}
+use Rattle.hx_session.specs.Still.{WhereOn}
+use Rattle.hx_session.specs.Waiting.{IsIdle}
+use Rattle.hx_session.proofs.DecidedLemmas.{came_from}
+use Rattle.hx_session.specs.Decided.{CameDecides}
 use Rattle.hx_session.proofs.phases.move_from_client.Goals as goal
 
 pub returns-clause-told : goal.returns-clause-told
@@ -58,3 +62,15 @@ pub returns-clause-own : goal.returns-clause-own
 returns-clause-own g c = λ status taken k.
     let on = subst (λ (x : Came g.row.L.Denot). CameOwn status taken (desk_now g.L.Link.state c.args.desk.now) x) c.in-On.is k in
     absurd (wants_own (stage_now c.in-On.stage) status (c.reads_client.ensures.0 c.if-not-reads_client.false) on.1)
+
+pub returns-clause-still : goal.returns-clause-still
+returns-clause-still g c = λ d0 s0 k.
+    let d : DeskNow = desk_now g.L.Link.state c.args.desk.now in
+    c.take_some.ensures.still d0 s0 (subst (λ (x : Came g.row.L.Denot). WhereOn x (λ s w. IsIdle d0 s0 d s c.args.now.0)) c.in-On.is k)
+
+pub returns-clause-decides : goal.returns-clause-decides
+returns-clause-decides g c = λ limits moment d0 s0 net0 k.
+    let d : DeskNow = desk_now g.L.Link.state c.args.desk.now in
+    let d2 : DeskNow = desk_now g.L.Link.state c.take_some.new.desk in
+    let net : NetState = g.N.Net.state c.args.net.now in
+    came_from limits moment d0 d d2 s0 (stage_now c.in-On.stage) net0 net (g.N.Net.state c.take_some.new.net) c.take_some.result (subst (λ (x : Came g.row.L.Denot). CameDecides limits moment d0 s0 net0 d x net) c.in-On.is k) (c.take_some.ensures.decides limits moment)

@@ -23,6 +23,10 @@ use Rattle.hx_session.proofs.LeavingLemmas.{told_leaves}
 use Rattle.hx_session.specs.Owning.{CameOwn}
 use Rattle.hx_session.specs.Seen.{own_seen}
 use Rattle.hx_session.proofs.OwningLemmas.{none_own}
+use Rattle.hx_session.specs.Still.{WhereOn}
+use Rattle.hx_session.specs.Waiting.{IsUnread}
+use Rattle.hx_session.proofs.DecidedLemmas.{came_from}
+use Rattle.hx_session.specs.Decided.{CameDecides, IsSoFar}
 use Rattle.hx_session.proofs.phases.move_from_server.Goals as goal
 
 pub returns-clause-routed : goal.returns-clause-routed
@@ -88,3 +92,18 @@ pub returns-clause-own : goal.returns-clause-own
 returns-clause-own g c = λ status taken k.
     let on = subst (λ (x : Came g.row.L.Denot). CameOwn status taken (desk_now g.L.Link.state c.args.desk.now) x) c.in-On.is k in
     absurd (none_own (own_seen (stage_now c.in-On.stage)) status (ap (λ (x : Stage g.row.L.Denot). own_seen (stage_now x)) c.in-Exchanging.is) on.1)
+
+pub returns-clause-still : goal.returns-clause-still
+returns-clause-still g c = λ d0 s0 k.
+    let d : DeskNow = desk_now g.L.Link.state c.args.desk.now in
+    let on = subst (λ (x : Came g.row.L.Denot). WhereOn x (λ s w. IsUnread d0 s0 d s c.args.now.0)) c.in-On.is k in
+    c.read_some.ensures.still d0 s0 (subst (λ (x : Stage g.row.L.Denot). IsUnread d0 s0 d (stage_now x) c.args.now.0) c.in-Exchanging.is on)
+
+pub returns-clause-decides : goal.returns-clause-decides
+returns-clause-decides g c = λ limits moment d0 s0 net0 k.
+    let d : DeskNow = desk_now g.L.Link.state c.args.desk.now in
+    let d2 : DeskNow = desk_now g.L.Link.state c.read_some.new.desk in
+    let net : NetState = g.N.Net.state c.args.net.now in
+    let on = subst (λ (x : Came g.row.L.Denot). CameDecides limits moment d0 s0 net0 d x net) c.in-On.is k in
+    let there = subst (λ (x : Stage g.row.L.Denot). IsSoFar d0 s0 net0 d (stage_now x) net) c.in-Exchanging.is on in
+    came_from limits moment d0 d d2 s0 (Exchanging (exchange_now c.in-Exchanging.exchange)) net0 net (g.N.Net.state c.read_some.new.net) c.read_some.result there (c.read_some.ensures.decides limits moment)

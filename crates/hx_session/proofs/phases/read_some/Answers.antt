@@ -1,4 +1,4 @@
-use Rattle.std.proofs.Common.{List, map}
+use Rattle.std.proofs.Common.{◌≡◌, List, map, sym, subst}
 use Rattle.hx_link.specs.Nets.{NetState}
 use Rattle.hx_pool.specs.SeatView.{History}
 use Rattle.hx_connecting.proofs.AddingLemmas.{holds_stand}
@@ -8,6 +8,10 @@ use Rattle.hx_session.specs.Desks.{desk_now, DeskNow}
 use Rattle.hx_session.specs.Exchanged.{exchange_now, ExchangeNow}
 use Rattle.hx_session.proofs.PartLemmas.{goes_from_exchange}
 use Rattle.hx_session.proofs.StandingLemmas.{set_on}
+use Rattle.hx_session.proofs.PausedLemmas.{server_paused, where_then}
+use Rattle.hx_session.specs.Stages.{StageNow}
+use Rattle.hx_session.specs.Waiting.{StandsStill, IsNone}
+use Rattle.hx_session.proofs.DecidedLemmas.{server_far, server_fails}
 use Rattle.hx_session.proofs.phases.read_some.Goals as goal
 
 pub after_server_move-requires-clause-set : goal.after_server_move-requires-clause-set
@@ -35,4 +39,14 @@ returns g c =
     record {
       goes = goes_from_exchange d d2 d3 e e2 olds news net net2 c.after_server_move.result (holds_stand d.worker d.session (conn_seen (Exchanging e)) 0 olds c.requires.placed.set.around.holds) r.keeps r.conn r.stays (c.after_server_move.ensures.keeps d e r.told) c.after_server_move.ensures.goes (c.after_server_move.ensures.told d e r.told);
       rooms = c.after_server_move.ensures.rooms;
+      decides = λ limits moment. c.after_server_move.ensures.decides limits moment d e (λ quiet. server_far d d2 e e2 net c.args.at.now.0 c.read_server-read.result quiet r.none);
+      still = λ d0 s0 k. where_then c.after_server_move.result (λ s w. (d3 ≡ d2) × (s ≡ Exchanging e2) × IsNone c.read_server-read.result) (λ s w. StandsStill d0 s0 d3 s c.args.at.now.0)
+          (λ s w q. subst (λ (x : DeskNow). StandsStill d0 s0 x s c.args.at.now.0) (sym q.0) (subst (λ (x : StageNow). StandsStill d0 s0 d2 x c.args.at.now.0) (sym q.1) (server_paused d0 d d2 s0 e e2 c.args.at.now.0 c.read_server-read.result q.2 r.none k)))
+          c.after_server_move.ensures.still;
     }
+
+pub after_server_move-requires-clause-failed : goal.after_server_move-requires-clause-failed
+after_server_move-requires-clause-failed g c = λ is.
+    let d : DeskNow = desk_now g.L.Link.state c.args.desk.now in
+    let d2 : DeskNow = desk_now g.L.Link.state c.read_server-read.new.desk in
+    server_fails d d2 (exchange_now c.args.exchange) (exchange_now c.read_server-read.new.exchange) c.args.at.now.0 c.read_server-read.result is c.read_server-read.ensures.none

@@ -17,6 +17,11 @@ use Rattle.hx_session.specs.First.{FreshOn}
 use Rattle.hx_session.proofs.FirstLemmas.{turn_fresh}
 use Rattle.hx_session.specs.Owning.{CameOwn}
 use Rattle.hx_session.proofs.OwningLemmas.{turn_own}
+use Rattle.hx_session.proofs.PausedLemmas.{turn_paused}
+use Rattle.hx_session.specs.Still.{WhereOn}
+use Rattle.hx_session.specs.Waiting.{IsPaused}
+use Rattle.hx_session.proofs.DecidedLemmas.{turn_far}
+use Rattle.hx_session.specs.Decided.{CameDecides}
 use Rattle.hx_session.proofs.phases.take_turn.Goals as goal
 
 pub returns-clause-placed : goal.returns-clause-placed
@@ -86,3 +91,15 @@ returns-clause-own g c = λ status taken d k.
     let h = g.S.HasHistory.history in
     turn_own status taken d c.args.back.now.servers c.args.turn.now c.choose_server.new.turn (map h c.args.seats.now) (map h c.choose_server.new.seats) (stage_now c.in-On.stage) (stage_now c.choose_server.result)
     c.choose_server.ensures.chooses (subst (λ (x : Came g.row.L.Denot). CameOwn status taken d x) c.in-On.is k)
+
+pub returns-clause-still : goal.returns-clause-still
+returns-clause-still g c = λ d0 d s0 moment k.
+    let h = g.S.HasHistory.history in
+    turn_paused d0 d s0 moment c.args.back.now.servers c.args.turn.now c.choose_server.new.turn (map h c.args.seats.now) (map h c.choose_server.new.seats) (stage_now c.in-On.stage) (stage_now c.choose_server.result)
+    c.choose_server.ensures.chooses (subst (λ (x : Came g.row.L.Denot). WhereOn x (λ s w. IsPaused d0 s0 d s moment)) c.in-On.is k)
+
+pub returns-clause-decides : goal.returns-clause-decides
+returns-clause-decides g c = λ limits moment d0 d s0 net0 net k.
+    let h = g.S.HasHistory.history in
+    turn_far d0 d s0 net0 net c.args.back.now.servers c.args.turn.now c.choose_server.new.turn (map h c.args.seats.now) (map h c.choose_server.new.seats) (stage_now c.in-On.stage) (stage_now c.choose_server.result)
+    c.choose_server.ensures.chooses (subst (λ (x : Came g.row.L.Denot). CameDecides limits moment d0 s0 net0 d x net) c.in-On.is k)

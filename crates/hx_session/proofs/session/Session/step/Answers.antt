@@ -55,6 +55,13 @@ use Rattle.hx_session.proofs.LeavingLemmas.{leaves_for_cause, limits_same}
 use Rattle.hx_session.specs.Deciding.{KeepsOwn}
 use Rattle.hx_session.specs.Owning.{DoneOwn, OwnAt}
 use Rattle.hx_session.proofs.OwningLemmas.{keeps_own}
+use Rattle.hx_session.specs.Standstill.{Stands}
+use Rattle.hx_session.specs.Waiting.{StandsStill}
+use Rattle.hx_session.proofs.IdleLemmas.{stands_so}
+use Rattle.hx_session.proofs.ExitLemmas.{done_stands}
+use Rattle.hx_session.proofs.DecidedLemmas.{cuts_for, never_own, owns_for}
+use Rattle.hx_session.specs.Decided.{DoneDecides}
+use Rattle.hx_session.specs.Deciding.{CutsAllFor, OwnsFor}
 use Rattle.hx_session.proofs.session.Session.step.Goals as goal
 
 pub advance-stage-requires : goal.advance-stage-requires
@@ -288,3 +295,57 @@ returns-clause-keeps g c = λ going.
     let s2 : StageNow = stage_now done.stage in
     let own = subst (λ (x : Stage g.row.L.Denot). (status taken : ℕ) → OwnAt status taken d (stage_now x) → DoneOwn status taken d2 s2 done.served) c.replace-stage.ensures.value c.advance-stage.ensures.own in
     subst (λ (x : SessionNow). KeepsOwn x (session_seen front d2 s2) done.served) c.self.view_is (keeps_own front d d2 s s2 done.served own)
+
+pub returns-clause-stands : goal.returns-clause-stands
+returns-clause-stands g c = λ still going.
+    let front = c.self.inside.front in
+    let d : DeskNow = desk_now g.L.Link.state c.self.inside.desk in
+    let d2 : DeskNow = desk_now g.L.Link.state c.advance-stage.new.desk in
+    let s : StageNow = stage_now c.self.inside.stage in
+    let done = c.advance-stage.result in
+    let s2 : StageNow = stage_now done.stage in
+    let news : List History = map g.S.HasHistory.history c.advance-stage.new.seats in
+    let now = c.args.now.0 in
+    let k = subst (λ (m : Millis). StandsStill d s d2 s2 m.0) c.scene_of-scene.ensures.now (subst (λ (x : Stage g.row.L.Denot). StandsStill d (stage_now x) d2 s2 c.scene_of-scene.result.now.0) c.replace-stage.ensures.value (c.advance-stage.ensures.still still)) in
+    subst (λ (x : SessionNow). Stands x (session_seen front d2 s2) now) c.self.view_is
+    (stands_so front d d2 s s2 now (done_stands d d2 s s2 news done.waits done.left now k c.advance-stage.ensures.done) k)
+
+pub returns-clause-owns : goal.returns-clause-owns
+returns-clause-owns g c = λ going.
+    let front = c.self.inside.front in
+    let d : DeskNow = desk_now g.L.Link.state c.self.inside.desk in
+    let d2 : DeskNow = desk_now g.L.Link.state c.advance-stage.new.desk in
+    let s : StageNow = stage_now c.self.inside.stage in
+    let done = c.advance-stage.result in
+    let s2 : StageNow = stage_now done.stage in
+    let net : NetState = g.N.Net.state c.args.net.now in
+    let net2 : NetState = g.N.Net.state c.advance-stage.new.net in
+    let config = c.args.config.now in
+    let now = c.args.now.0 in
+    let scene = c.scene_of-scene in
+    let those = limits_with (Some scene.result.front.now) (Some scene.result.back.now) in
+    let k = subst (λ (m : Millis). DoneDecides those m.0 d s net d2 s2 net2 done.served) scene.ensures.now (subst (λ (x : Stage g.row.L.Denot). DoneDecides those scene.result.now.0 d (stage_now x) net d2 s2 net2 done.served) c.replace-stage.ensures.value c.advance-stage.ensures.decides) in
+    let limits = limits_same (meaning config) front scene.result.front.now scene.result.back.now scene.ensures.front scene.ensures.back in
+    let told = subst (λ (x : Stage g.row.L.Denot). DoneTells d (stage_now x) d2 s2 done.served done.left) c.replace-stage.ensures.value c.advance-stage.ensures.told in
+    subst (λ (x : SessionNow). OwnsFor (limits_of (meaning config) x.front) x (session_seen front d2 s2) net net2 now done.served) c.self.view_is
+    (subst (λ (l : Limits). OwnsFor l (session_seen front d s) (session_seen front d2 s2) net net2 now done.served) (sym limits)
+    (owns_for those now front d d2 s s2 net net2 done.served (never_own d d2 s s2 done.served done.left told) k))
+
+pub returns-clause-cuts : goal.returns-clause-cuts
+returns-clause-cuts g c = λ going.
+    let front = c.self.inside.front in
+    let d : DeskNow = desk_now g.L.Link.state c.self.inside.desk in
+    let d2 : DeskNow = desk_now g.L.Link.state c.advance-stage.new.desk in
+    let s : StageNow = stage_now c.self.inside.stage in
+    let done = c.advance-stage.result in
+    let s2 : StageNow = stage_now done.stage in
+    let net : NetState = g.N.Net.state c.args.net.now in
+    let net2 : NetState = g.N.Net.state c.advance-stage.new.net in
+    let config = c.args.config.now in
+    let now = c.args.now.0 in
+    let scene = c.scene_of-scene in
+    let those = limits_with (Some scene.result.front.now) (Some scene.result.back.now) in
+    let k = subst (λ (m : Millis). DoneDecides those m.0 d s net d2 s2 net2 done.served) scene.ensures.now (subst (λ (x : Stage g.row.L.Denot). DoneDecides those scene.result.now.0 d (stage_now x) net d2 s2 net2 done.served) c.replace-stage.ensures.value c.advance-stage.ensures.decides) in
+    let limits = limits_same (meaning config) front scene.result.front.now scene.result.back.now scene.ensures.front scene.ensures.back in
+    subst (λ (x : SessionNow). CutsAllFor (limits_of (meaning config) x.front) x (session_seen front d2 s2) net net2 now done.served) c.self.view_is
+    (subst (λ (l : Limits). CutsAllFor l (session_seen front d s) (session_seen front d2 s2) net net2 now done.served) (sym limits) (cuts_for those now front d d2 s s2 net net2 done.served k))

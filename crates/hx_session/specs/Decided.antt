@@ -1,0 +1,173 @@
+-- What the parts of a step decide, and why: an own answer, or that the exchange is cut off.
+use Rattle.std.specs.Prelude.{◌≡◌, ◌⊎◌, ℕ, ◌<◌, ◌≤◌, List, [], ◌∷◌, Option, Some, None, IfSome, ⊤}
+use Rattle.hx_conn.specs.Conns.{BusyNow}
+use Rattle.hx_connecting.specs.Sessions as seen
+use Rattle.hx_link.specs.Nets.{NetState}
+use Rattle.hx_link.specs.Told.{LinkState}
+use Rattle.hx_record.specs.declared.served.Carried.{Carried}
+use Rattle.hx_record.specs.declared.served.CutCause.{CutCause}
+use Rattle.hx_record.specs.declared.served.CutCause.TheVariants as cut
+use Rattle.hx_record.specs.declared.served.Kind.TheVariants as kind
+use Rattle.hx_record.specs.declared.served.Served.{Served}
+use Rattle.hx_session.specs.declared.stage.Came.{Came}
+use Rattle.hx_session.specs.declared.stage.Came.TheVariants.{On, Moved, Ends}
+use Rattle.hx_session.specs.Causes.{Buries, CutsFor, Decides, HasCome, Limits}
+use Rattle.hx_session.specs.declared.deadline.Late.{Late}
+use Rattle.hx_session.specs.declared.deadline.Late.TheVariants.{Client, Connect, Server}
+use Rattle.hx_session.specs.declared.moves.Move.{Move}
+use Rattle.hx_session.specs.declared.moves.Move.TheVariants.{Idle, Bytes, Waits, Ended, Failed}
+use Rattle.hx_conn.specs.Conns.{IsBusy, RestedNow}
+use Rattle.hx_session.specs.Desks.{DeskNow}
+use Rattle.hx_session.specs.Exchanged.{ExchangeNow}
+use Rattle.hx_session.specs.Moves.{with_client}
+use Rattle.hx_session.specs.Seen.{conn_seen, own_seen, session_seen}
+use Rattle.hx_session.specs.Stages.{StageNow, Reading, Exchanging, stage_now}
+
+-- a link of which no byte was moved: it had to wait, or failed
+pub record MovesNoByte (a b : LinkState) : Type 0 where
+  pub link : b ≡ record a {
+    faults = b.faults;
+    read_waits = b.read_waits;
+    read_wait_at = b.read_wait_at;
+    read_waited = b.read_waited;
+    write_waits = b.write_waits;
+    write_wait_at = b.write_wait_at;
+    read_length = b.read_length;
+    write_length = b.write_length;
+  }
+  pub faults : a.faults ≤ b.faults
+
+-- the connection of an exchange, on whose link no byte was moved
+pub record BusyStays (a b : BusyNow) : Type 0 where
+  pub busy : b ≡ record a { link = b.link; exchange = record a.exchange { failed = b.exchange.failed } }
+  pub link : MovesNoByte a.link b.link
+
+-- since a step began no byte was moved on a link, and a server may have been chosen, and nothing else changed
+pub record IsSoFar (d0 : DeskNow) (s0 : StageNow) (net0 : NetState) (d : DeskNow) (s : StageNow) (net : NetState) : Type 0 where
+  pub desk : d ≡ with_client d0 d.client
+  pub client : MovesNoByte d0.client d.client
+  pub exchange : (e : ExchangeNow) → s ≡ Exchanging e → (e0 : ExchangeNow) × (s0 ≡ Exchanging e0) × BusyStays e0.busy e.busy
+  pub was : (e0 : ExchangeNow) → s0 ≡ Exchanging e0 → (e : ExchangeNow) × (s ≡ Exchanging e)
+  pub own : own_seen s ≡ own_seen s0
+  pub net_same : net ≡ net0
+
+-- an own answer of that status was decided for its cause since a session stood so
+abbrev pub OwnAnswers : Limits → ℕ → DeskNow → StageNow → NetState → NetState → ℕ → Type 0
+OwnAnswers limits now d0 s0 net0 net status = (front : ℕ) → Decides limits (session_seen front d0 s0) net0 net now (λ u. ⊤) status
+
+-- and an exchange was cut off for that one, at a desk whose client's link is so then
+abbrev pub CutsWhy : Limits → ℕ → DeskNow → StageNow → NetState → LinkState → NetState → BusyNow → CutCause → Type 0
+CutsWhy limits now d0 s0 net0 client net b why =
+    (l : LinkState) × Buries b net0 net l × ((front : ℕ) → CutsFor limits (session_seen front d0 s0) client b l now why)
+
+abbrev pub CutsRecord : Limits → ℕ → DeskNow → StageNow → NetState → LinkState → NetState → Option Served → Type 0
+CutsRecord limits now d0 s0 net0 client net served =
+    (r : Served) (c : Carried) (why : CutCause) (b : BusyNow)
+    → served ≡ Some r → r.kind ≡ kind.Cut c why → conn_seen s0 ≡ Some (seen.Exchanging b) → CutsWhy limits now d0 s0 net0 client net b why
+
+-- what the parts of a step have come to
+abbrev pub CameDecides : {X : Type 0} → Limits → ℕ → DeskNow → StageNow → NetState → DeskNow → Came X → NetState → Type 0
+CameDecides limits now d0 s0 net0 d (On stage w) net = IsSoFar d0 s0 net0 d (stage_now stage) net
+CameDecides limits now d0 s0 net0 d (Moved stage w served) net =
+    (own_seen s0 ≡ None → (status : ℕ) → own_seen (stage_now stage) ≡ Some status → OwnAnswers limits now d0 s0 net0 net status)
+    × CutsRecord limits now d0 s0 net0 d.client net served
+CameDecides limits now d0 s0 net0 d (Ends e) net =
+    CutsRecord limits now d0 s0 net0 d.client net e.served
+    × ((r : Served) (c : Carried) (why : CutCause) → e.served ≡ Some r → r.kind ≡ kind.Cut c why → e.held ≡ None)
+
+-- and a whole step
+pub record DoneDecides (limits : Limits) (now : ℕ) (d0 : DeskNow) (s0 : StageNow) (net0 : NetState) (d : DeskNow) (s : StageNow) (net : NetState) (served : Option Served) : Type 0 where
+  pub own : own_seen s0 ≡ None → (status : ℕ) → own_seen s ≡ Some status → OwnAnswers limits now d0 s0 net0 net status
+  pub cut : CutsRecord limits now d0 s0 net0 d.client net served
+
+-- the link as it is buried
+abbrev pub loose : LinkState → LinkState
+loose l = record l { on_loop = None }
+
+-- a part that ends an exchange: by an own answer, or by cutting it off, after which its link is buried
+abbrev pub EndsAs : {X : Type 0} → DeskNow → BusyNow → NetState → (ℕ → Type 0) → (CutCause → Type 0) → DeskNow → Came X → NetState → Type 0
+EndsAs d b net Own Cuts d' (On stage w) net' = ⊥
+EndsAs d b net Own Cuts d' (Moved stage w served) net' =
+    ((status : ℕ) × (own_seen (stage_now stage) ≡ Some status) × Own status) × (served ≡ None) × IsBusy b × Buries b net net' (loose b.link)
+EndsAs d b net Own Cuts d' (Ends e) net' =
+    ((r : Served) × (c : Carried) × (why : CutCause) × (e.served ≡ Some r) × (r.kind ≡ kind.Cut c why) × Cuts why)
+    × (e.held ≡ None) × (d'.client ≡ d.client) × IsBusy b × Buries b net net' (loose b.link)
+
+-- something was given for the request, or nothing yet
+abbrev pub Given : DeskNow → Type 0
+Given d = d.gave_from < d.given
+
+abbrev pub Ungiven : DeskNow → Type 0
+Ungiven d = d.given ≤ d.gave_from
+
+-- the connection may close without an answer, or it may not
+pub record IsSilent (d : DeskNow) (b : BusyNow) : Type 0 where
+  pub later : 2 ≤ d.number
+  pub used : 1 ≤ b.uses
+  pub nothing : b.link.taken_count ≡ b.exchange.taken_from
+  pub given : Ungiven d
+
+abbrev pub IsHeard : DeskNow → BusyNow → Type 0
+IsHeard d b = (d.number ≤ 1) ⊎ (b.uses ≡ 0) ⊎ (b.exchange.taken_from < b.link.taken_count)
+
+-- an event of the server's side: an own answer of that status, or a cut for that cause
+abbrev pub EndsByServer : {X : Type 0} → DeskNow → BusyNow → NetState → CutCause → ℕ → DeskNow → Came X → NetState → Type 0
+EndsByServer d b net why status d' came net' = EndsAs d b net (λ k. (k ≡ status) × Ungiven d) (λ w. (w ≡ why) × Given d) d' came net'
+
+-- its link ended or failed: the same, or the connection closes without an answer
+abbrev pub LosesServer : {X : Type 0} → DeskNow → BusyNow → NetState → CutCause → ℕ → DeskNow → Came X → NetState → Type 0
+LosesServer d b net why status d' came net' =
+    EndsAs d b net (λ k. (k ≡ status) × IsHeard d b) (λ w. ((w ≡ why) × Given d) ⊎ ((w ≡ cut.Silent) × IsSilent d b)) d' came net'
+
+-- a part that cuts an exchange off for that cause, or gives it up for an own answer of that status
+abbrev pub CutsAs : {X : Type 0} → DeskNow → BusyNow → NetState → CutCause → DeskNow → Came X → NetState → Type 0
+CutsAs d b net why d' came net' = EndsAs d b net (λ k. ⊥) (λ w. w ≡ why) d' came net'
+
+abbrev pub GivesUp : {X : Type 0} → DeskNow → BusyNow → NetState → ℕ → DeskNow → Came X → NetState → Type 0
+GivesUp d b net status d' came net' = EndsAs d b net (λ k. k ≡ status) (λ w. ⊥) d' came net'
+
+-- a part after which no own answer is decided, and no record given
+abbrev pub PassesOn : {X : Type 0} → Came X → Type 0
+PassesOn (On stage w) = ⊤
+PassesOn (Moved stage w served) = (own_seen (stage_now stage) ≡ None) × (served ≡ None)
+PassesOn (Ends e) = ⊥
+
+-- or one that gives that record
+abbrev pub HasPassed : {X : Type 0} → Came X → Served → Type 0
+HasPassed (On stage w) r = ⊥
+HasPassed (Moved stage w served) r = (own_seen (stage_now stage) ≡ None) × (served ≡ Some r)
+HasPassed (Ends e) r = e.served ≡ Some r
+
+-- an own answer that is decided there has that status
+abbrev pub OwnIs : ℕ → StageNow → Type 0
+OwnIs k s = (status : ℕ) → own_seen s ≡ Some status → status ≡ k
+
+-- the client's deadline has come, or nothing of a request is there
+abbrev pub ClientComes : Limits → ℕ → DeskNow → StageNow → Type 0
+ClientComes limits now d s =
+    HasCome limits.client d.since.0 now ⊎ ((d.from.bytes ≡ []) × ((held : Option RestedNow) × (s ≡ Reading held)))
+
+-- a deadline of the server's side has come, by the status of its own answer
+abbrev pub ServerLate : Limits → ℕ → DeskNow → ℕ → Type 0
+ServerLate limits now d status =
+    ((status ≡ 503) × HasCome limits.connect d.since.0 now) ⊎ ((status ≡ 504) × HasCome limits.server d.since.0 now)
+
+-- the own answer of a deadline
+abbrev pub status_for : Late → ℕ
+status_for Client = 408
+status_for Connect = 503
+status_for Server = 504
+
+-- a call that moved no byte
+abbrev pub IsQuiet : Move → Type 0
+IsQuiet Idle = ⊤
+IsQuiet Bytes = ⊥
+IsQuiet Waits = ⊤
+IsQuiet Ended = ⊥
+IsQuiet Failed = ⊤
+
+-- where the session leaves with a cut it holds nothing
+abbrev pub GivesOwnOnly : {X : Type 0} → Came X → Type 0
+GivesOwnOnly (On stage w) = ⊤
+GivesOwnOnly (Moved stage w served) = ⊤
+GivesOwnOnly (Ends e) = (r : Served) (c : Carried) (why : CutCause) → e.served ≡ Some r → r.kind ≡ kind.Cut c why → e.held ≡ None
