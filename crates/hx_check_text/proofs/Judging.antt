@@ -1,5 +1,7 @@
 -- What is found of a transcript is found of the text that spells it.
-use Rattle.std.proofs.Common.{◌≡◌, ℕ, ◌≤◌, List, length, Result, Ok, subst}
+use Rattle.std.proofs.Common.{◌≡◌, ℕ, ◌≤◌, List, length, Result, Ok, Err, subst}
+use Rattle.std.specs.Prelude.{IfOk}
+use Rattle.hx_base.specs.declared.numbers.NoMemory.{NoMemory}
 use Rattle.hx_script.specs.declared.transcript.Transcript.{Transcript}
 use Rattle.hx_script.specs.Numbers.{HasNumbers}
 use Rattle.hx_script.specs.Printed.{Spells}
@@ -17,6 +19,11 @@ pub spelled : (bytes : List ℕ) (t : Transcript) (c : Checked) → HasNumbers t
 spelled bytes t checked.Holds numbers is short judged = record { transcript = t; numbers = numbers; spells = is; short = short; judged = judged }
 spelled bytes t (checked.Broken rule line) numbers is short judged = record { transcript = t; numbers = numbers; spells = is; short = short; judged = judged }
 spelled bytes t (checked.Fault line rule) numbers is short judged = absurd judged
+
+pub judged_all : (bytes : List ℕ) (t : Transcript) (r : Result Checked NoMemory) → HasNumbers t → Spells bytes t → length bytes ≤ longest_text → IfOk r (IsJudged t)
+    → IfOk r (λ c. IsChecked bytes c)
+judged_all bytes t (Ok c) numbers is short judged = spelled bytes t c numbers is short judged
+judged_all bytes t (Err e) numbers is short judged = tt
 
 -- what is read has no fault
 no_fault : (line rule : ℕ) (r : Result Parts Flaw) (p : Parts) → r ≡ Ok p → IsFaultOf (text.At line rule) r → ⊥

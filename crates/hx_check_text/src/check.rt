@@ -48,7 +48,7 @@ pub fn check_text(alloc: Global, text: &[u8]) -> Result<Checked, NoMemory>
     ensures { IfOk result (λ c. IsChecked text.now c) }
 {
     match read_transcript(alloc, text) {
-        Ok(t) => Ok(judged(alloc, &t)?),
+        Ok(t) => judged(alloc, &t),
         Err(TextFault::At { line, rule }) => Ok(Checked::Fault { line, rule }),
         Err(_) => Err(NoMemory),
     }
