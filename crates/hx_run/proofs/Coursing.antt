@@ -31,9 +31,11 @@ Has w net records = (graves : List Grave) × KeepsCourse w net records graves
 -- room in the journals is no matter of it
 roomier : (w r : WorkerNow) (net : NetState) (records : List Told) → IsRoomier w r → Has w net records → Has r net records
 roomier w r net records same h =
-    let k = h.1 in
-    (h.0, subst (λ (x : WorkerNow). KeepsCourse x net records h.0) (sym same)
-    (record { alone = k.alone; buried = k.buried; clients = k.clients; truth = k.truth; conns = k.conns; owners = k.owners; dials = k.dials }))
+    let k = h.1 in (
+      h.0,
+      subst (λ (x : WorkerNow). KeepsCourse x net records h.0) (sym same)
+          (record { alone = k.alone; buried = k.buried; clients = k.clients; truth = k.truth; conns = k.conns; owners = k.owners; dials = k.dials }),
+    )
 
 -- a round of the caretaker, and an order
 pub ticked_course : (w r w' : WorkerNow) (net net' : NetState) (now : Millis) (count : ℕ) (records : List Told) → IsRoomier w r → TicksAll r w' net net' now count → Has w net records → Has w' net' records
@@ -66,16 +68,18 @@ same_net : (w : WorkerNow) (a b : NetState) (records : List Told) → AttachCoun
 same_net w a b records same h =
     let k = h.1 in
     let buried : b.buried ≡ a.buried = ap (λ (n : NetState). n.buried) same.0 in
-    let dials : b.dials ≡ a.dials = ap (λ (n : NetState). n.dials) same.0 in
-    (h.0, record {
-      alone = k.alone;
-      buried = subst (λ (o : Option (List LinkState)). StaysTold (Some (links_of h.0)) o) (sym buried) k.buried;
-      clients = k.clients;
-      truth = k.truth;
-      conns = k.conns;
-      owners = k.owners;
-      dials = λ ds told d there answered. k.dials ds (sym dials ∙ told) d there answered;
-    })
+    let dials : b.dials ≡ a.dials = ap (λ (n : NetState). n.dials) same.0 in (
+      h.0,
+      record {
+        alone = k.alone;
+        buried = subst (λ (o : Option (List LinkState)). StaysTold (Some (links_of h.0)) o) (sym buried) k.buried;
+        clients = k.clients;
+        truth = k.truth;
+        conns = k.conns;
+        owners = k.owners;
+        dials = λ ds told d there answered. k.dials ds (sym dials ∙ told) d there answered;
+      },
+    )
 
 -- a client whose link was attached and is buried, and one that is admitted
 pub turned_course : (w : WorkerNow) (a b c : NetState) (client : LinkState) (records : List Told) → AttachCounted a b → client.dial ≡ None → NetBuries b c client → Has w a records → Has w c records

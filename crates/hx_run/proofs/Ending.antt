@@ -68,14 +68,16 @@ pub begins_course : (config : Meaning) (hs : List History) (js : List JournalRoo
     → BeginFor (all_servers config.backs) hs → net ≡ new_net plans room
     → (graves : List Grave) × KeepsCourse (new_worker first_thread config hs js) net.state [] graves
 begins_course config hs js plans room net numbered b is =
-    let state : net.state ≡ (new_net plans room).state = ap (λ (n : MemoryNetNow). n.state) is in
-    ([], course_begin first_thread config hs js net.state
-    (λ i h e. let k = begun_at (all_servers config.backs) hs i h b e in ap (λ (a : About). a.threads) k.begins.about)
-    (λ i h e. let k = begun_at (all_servers config.backs) hs i h b e in
-    let no : h.about.server.0 ≡ k.server.no.0 = ap (λ (a : About). a.server.0) k.begins.about in
-    omega (arith, no, number_at 0 (all_servers config.backs) i k.server numbered k.at))
-    (λ i h e. (begun_at (all_servers config.backs) hs i h b e).begins.unused.seen)
-    (inl (ap (λ (n : NetState). n.buried) state)) (inl (ap (λ (n : NetState). n.dials) state)))
+    let state : net.state ≡ (new_net plans room).state = ap (λ (n : MemoryNetNow). n.state) is in (
+      [],
+      course_begin first_thread config hs js net.state
+          (λ i h e. let k = begun_at (all_servers config.backs) hs i h b e in ap (λ (a : About). a.threads) k.begins.about)
+          (λ i h e. let k = begun_at (all_servers config.backs) hs i h b e in
+          let no : h.about.server.0 ≡ k.server.no.0 = ap (λ (a : About). a.server.0) k.begins.about in
+          omega (arith, no, number_at 0 (all_servers config.backs) i k.server numbered k.at))
+          (λ i h e. (begun_at (all_servers config.backs) hs i h b e).begins.unused.seen)
+          (inl (ap (λ (n : NetState). n.buried) state)) (inl (ap (λ (n : NetState). n.dials) state)),
+    )
 
 -- ---- the end
 

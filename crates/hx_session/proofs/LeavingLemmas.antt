@@ -143,14 +143,14 @@ own_leaves_by limits now d d' cause.Stop client since own k = tt
 
 -- once the client's link is on no loop
 pub loose_leaves : (limits : Limits) (now : ℕ) (d d' : DeskNow) (why : LeftCause) → d'.client ≡ record d.client { on_loop = None } → d'.since ≡ d.since → d'.ask_from ≡ d.ask_from → LeavesBy limits now d why → LeavesBy limits now d' why
-loose_leaves limits now d d' cause.End client since asked k =
-    subst (λ (l : LinkState). (l.told_end ≡ true) × NoneWhole l d'.ask_from) (sym client) (k.0, subst (λ (n : ℕ). NoneWhole d.client n) (sym asked) k.1)
-loose_leaves limits now d d' cause.Fault client since asked k = subst (λ (l : LinkState). 1 ≤ l.faults) (sym client) k
-loose_leaves limits now d d' cause.Idle client since asked k = subst (λ (m : Millis). HasCome limits.client m.0 now ⊎ HasCome limits.keep_alive m.0 now) (sym since) k
-loose_leaves limits now d d' cause.Closing client since asked k = tt
-loose_leaves limits now d d' cause.Own client since asked k = tt
-loose_leaves limits now d d' cause.Cut client since asked k = tt
-loose_leaves limits now d d' cause.Stop client since asked k = tt
+loose_leaves limits now d d' cause.End client since begins k =
+    subst (λ (l : LinkState). (l.told_end ≡ true) × NoneWhole l d'.ask_from) (sym client) (k.0, subst (λ (n : ℕ). NoneWhole d.client n) (sym begins) k.1)
+loose_leaves limits now d d' cause.Fault client since begins k = subst (λ (l : LinkState). 1 ≤ l.faults) (sym client) k
+loose_leaves limits now d d' cause.Idle client since begins k = subst (λ (m : Millis). HasCome limits.client m.0 now ⊎ HasCome limits.keep_alive m.0 now) (sym since) k
+loose_leaves limits now d d' cause.Closing client since begins k = tt
+loose_leaves limits now d d' cause.Own client since begins k = tt
+loose_leaves limits now d d' cause.Cut client since begins k = tt
+loose_leaves limits now d d' cause.Stop client since begins k = tt
 
 -- the client's deadline
 pub late_leaves : (d : DeskNow) (s : StageNow) (front : Front) (back : Back) (now : ℕ) → FindsLate d s front back now (Some Client) → LeavesBy (limits_with (Some front) (Some back)) now d cause.Idle
