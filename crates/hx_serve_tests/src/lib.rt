@@ -1,5 +1,0 @@
-//! Tests over whole runs of the listening program.
-#![tactic(auto)]
-
-#[cfg(test)]
-mod tests;
