@@ -2,5 +2,6 @@
 
 mod check;
 mod configurations;
+mod readings;
 mod scripts;
 mod transcripts;

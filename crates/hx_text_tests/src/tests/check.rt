@@ -6,7 +6,7 @@ use crate::tests::transcripts::{Parts, bytes, transcript};
 use hx_base::{
     ConnId, Millis, Mode, PlaceNo, PoolRules, ServerNo, SessionNo, Span, ThreadNo, Totals,
 };
-use hx_check::check_transcript;
+use hx_check::{check_by_tables, check_transcript};
 use hx_pool::Entry;
 use hx_record::{Carried, CutCause, Kind, Left, LeftCause, Served, Told};
 use std::alloc::Global;
@@ -199,7 +199,7 @@ fn records_of(alloc: Global, records: &[Told]) -> Result<Vec<Told>, Fail>
     Ok(all)
 }
 
-/// The rule that is broken and its line, or zeros.
+/// The rule that is broken and its line, or zeros; with tables and without.
 fn broken_of(alloc: Global, case: Case) -> Result<(u8, u32), Fail> {
     let parts = Parts {
         rules: case.rules,
@@ -209,7 +209,12 @@ fn broken_of(alloc: Global, case: Case) -> Result<(u8, u32), Fail> {
         conn: (bytes(alloc, case.conn.0)?, bytes(alloc, case.conn.1)?),
         totals: case.totals,
     };
-    match check_transcript(&transcript(alloc, parts)?) {
+    let t = transcript(alloc, parts)?;
+    let broken = check_transcript(&t);
+    if check_by_tables(alloc, &t)? != broken {
+        return Err("by tables something else is found")?;
+    }
+    match broken {
         None => Ok((0, 0)),
         Some(broken) => Ok((broken.rule, broken.line)),
     }
