@@ -1,5 +1,6 @@
 //! The tests, in files by subject.
 
+mod broken;
 mod check;
 mod configurations;
 mod readings;

@@ -2,10 +2,11 @@
 
 use hx_check_text::{Checked, check_text};
 use std::alloc::Global;
+use std::process::Abort;
 use std::test::Fail;
 
 /// One request and its answer.
-const TEXT: &str = "hx-transcript 1
+pub(crate) const TEXT: &str = "hx-transcript 1
 server web/s1 always -1 0 5000
 open 0.1 1
 park 0.1 1 0:0 1
@@ -25,10 +26,10 @@ web/s1 open 1 park 1 take 0 over 0 care 1 close 1
 end
 ";
 
-/// The text with its only such part replaced.
-fn with(alloc: Global, old: &str, new: &str) -> Result<String, Fail> {
+/// The text with the first such part replaced.
+pub(crate) fn with(alloc: Global, whole: &str, old: &str, new: &str) -> Result<String, Fail> {
     let mut text = String::new(alloc);
-    match TEXT.split_once(old) {
+    match whole.split_once(old) {
         Some((front, back)) => {
             text.push_str(front)?;
             text.push_str(new)?;
@@ -39,6 +40,16 @@ fn with(alloc: Global, old: &str, new: &str) -> Result<String, Fail> {
     Ok(text)
 }
 
+/// With its first such part replaced, the text is refused at this line by this rule.
+fn show(rt: &impl Abort, alloc: Global, rule: u8, cases: &[(&str, &str, u32)]) -> Result<(), Fail> {
+    for (old, new, line) in cases {
+        let text = with(alloc, TEXT, old, new)?;
+        let found = check_text(alloc, text.as_bytes())?;
+        assert_eq!(rt; found, Checked::Fault { line: *line, rule }, "{new}");
+    }
+    Ok(())
+}
+
 #[test]
 fn a_text_that_spells_a_transcript_is_read(rt: HostRuntime) -> Result<(), Fail> {
     assert_eq!(rt; check_text(rt.alloc(), TEXT.as_bytes())?, Checked::Holds);
@@ -46,45 +57,129 @@ fn a_text_that_spells_a_transcript_is_read(rt: HostRuntime) -> Result<(), Fail> 
 }
 
 #[test]
-fn a_text_is_refused_at_its_first_faulty_line(rt: HostRuntime) -> Result<(), Fail> {
-    for (old, new, line, rule) in [
-        // The first line is another one.
-        ("hx-transcript 1", "hx-transcript 2", 1, 1),
-        ("hx-transcript 1", "hx-transcript 1 ", 1, 1),
-        // No line of any form; a last line without its end.
-        ("records\n", "record\n", 8, 2),
-        ("1\nend\n", "1\nend", 18, 2),
-        ("gate 0 drain", "gate 0 shut", 5, 2),
-        // No number, a zero in front, a number past its type.
-        ("park 0.1 1", "park 0.1 x", 4, 3),
-        ("open 0.1 1", "open 0.01 1", 3, 3),
-        ("open 0.1 1", "open 256.1 1", 3, 3),
-        // No byte text, and one in another spelling.
-        ("client 0.1 took \"GET", "client 0.1 took GET", 12, 4),
+fn another_first_line_is_refused(rt: HostRuntime) -> Result<(), Fail> {
+    let cases = [
+        ("hx-transcript 1", "hx-transcript 2", 1),
+        ("hx-transcript 1", "hx-transcript 1 ", 1),
+        ("hx-transcript 1\n", "", 1),
+    ];
+    show(&rt, rt.alloc(), 1, &cases)
+}
+
+#[test]
+fn a_line_of_no_form_is_refused(rt: HostRuntime) -> Result<(), Fail> {
+    let cases = [
+        // An unknown word, an empty line, a byte in front of a line's end, a last line without its end.
+        ("records\n", "record\n", 8),
+        ("gate 0 drain", "gate 0 shut", 5),
+        ("records\n", "\nrecords\n", 8),
+        ("records\n", "records\r\n", 8),
+        ("1\nend\n", "1\nend", 18),
+        // A word too few, one too many, an empty one.
+        ("gate 0 drain", "gate 0", 5),
+        ("close 0.0 1\n", "close 0.0 1 1\n", 7),
+        ("open 0.1 1", "open  0.1 1", 3),
+        ("h\\r\\n\\r\\n\"", "h\\r\\n\\r\\n\" x", 12),
+        // A name with another byte.
+        ("server web/s1", "server w*b/s1", 2),
+        // The caretaker's take is no first one.
+        ("0:0 1 later", "0:0 1 first", 6),
+    ];
+    show(&rt, rt.alloc(), 2, &cases)
+}
+
+#[test]
+fn a_word_without_its_mark_is_refused(rt: HostRuntime) -> Result<(), Fail> {
+    let cases = [
+        ("open 0.1 1", "open 01 1", 3),
+        ("park 0.1 1 0:0", "park 0.1 1 0-0", 4),
+        ("ask 0-28", "ask 0:28", 9),
+        ("web/s1#1 1 ask", "web/s1 1 ask", 9),
+        ("left 0.1 28-28", "left 0.1 28", 10),
+    ];
+    show(&rt, rt.alloc(), 2, &cases)
+}
+
+#[test]
+fn an_early_cut_closes(rt: HostRuntime) -> Result<(), Fail> {
+    let cut = "cut 0.1 1 web/s1#1 1 ask 0-28 sent 0-28 took 0-40 gave 0-40 close-no early";
+    let pass = "pass 0.1 1 web/s1#1 1 ask 0-28 sent 0-28 took 0-40 gave 0-40 keep";
+    show(&rt, rt.alloc(), 2, &[(pass, cut, 9)])
+}
+
+#[test]
+fn what_is_no_number_is_refused(rt: HostRuntime) -> Result<(), Fail> {
+    let cases = [
+        // No number, an empty one, a zero or a sign in front.
+        ("park 0.1 1", "park 0.1 x", 4),
+        ("open 0.1 1", "open 0.1 ", 3),
+        ("open 0.1 1", "open 0.01 1", 3),
+        ("open 0.1 1", "open 0.1 +1", 3),
+        ("always -1", "always -2", 2),
+        // One past its type.
+        ("open 0.1 1", "open 256.1 1", 3),
+        ("open 0.1 1", "open 0.4294967296 1", 3),
+        ("open 0.1 1", "open 0.1 18446744073709551616", 3),
+        ("park 0.1 1 0:0 1", "park 0.1 1 0:256 1", 4),
+        ("park 0.1 1 0:0 1", "park 0.1 1 0:0 65536", 4),
+        ("always -1", "always 4294967296", 2),
+        ("web/s1#1 1 ask", "web/s1#1 4294967296 ask", 9),
+    ];
+    show(&rt, rt.alloc(), 3, &cases)
+}
+
+#[test]
+fn what_is_no_byte_text_is_refused(rt: HostRuntime) -> Result<(), Fail> {
+    let cases = [
+        // Without a quote, with a letter behind it.
+        ("client 0.1 took \"GET", "client 0.1 took GET", 12),
+        ("nhi\"\nconn", "nhi\nconn", 13),
+        ("h\\r\\n\\r\\n\"", "h\\r\\n\\r\\n\"x", 12),
+        // In another spelling.
+        ("client 0.1 took \"GET", "client 0.1 took \"\\x47ET", 12),
+        ("h\\r\\n\\r\\n\"", "h\\x0d\\n\\r\\n\"", 12),
+        ("nhi\"\nconn", "nhi\\xFF\"\nconn", 13),
+    ];
+    show(&rt, rt.alloc(), 4, &cases)
+}
+
+#[test]
+fn a_line_that_does_not_stand_there_is_refused(rt: HostRuntime) -> Result<(), Fail> {
+    let again = "client 0.1 took \"\"\nclient 0.1 gave \"\"\nconn web/s1#1 sent";
+    let cases = [
+        // A line is left out.
+        ("server web/s1 always -1 0 5000\n", "", 2),
+        ("close 0.0 1\nrecords\n", "close 0.0 1\n", 8),
+        ("links\n", "", 11),
+        ("\ntotals\n", "\n", 16),
         (
-            "client 0.1 took \"GET",
-            "client 0.1 took \"\\x47ET",
-            12,
-            4,
+            "web/s1 open 1 park 1 take 0 over 0 care 1 close 1\n",
+            "",
+            17,
         ),
-        // A line that doesn't stand there, one that is missing, a server that is there already.
-        ("close 0.0 1\nrecords\n", "close 0.0 1\n", 8, 5),
-        ("close 1\nend\n", "close 1\n", 17, 5),
+        ("close 1\nend\n", "close 1\n", 17),
+        // One stands there again, or one of its pair alone.
+        ("close 1\nend\n", "close 1\nend\nend\n", 19),
         (
-            "open 0.1 1",
-            "server web/s1 always -1 0 5000\nopen 0.1 1",
+            "\nopen 0.1 1",
+            "\nserver web/s1 always -1 0 5000\nopen 0.1 1",
             3,
-            5,
         ),
-        // A server that no line names.
-        ("pass 0.1 1 web/s1#1", "pass 0.1 1 web/s2#1", 9, 7),
-        ("conn web/s1#1 sent", "conn wob/s1#1 sent", 14, 7),
-    ] {
-        let text = with(rt.alloc(), old, new)?;
-        let found = check_text(rt.alloc(), text.as_bytes())?;
-        assert_eq!(rt; found, Checked::Fault { line, rule }, "{new}");
-    }
-    Ok(())
+        ("conn web/s1#1 sent", again, 14),
+        ("client 0.1 gave", "client 0.1 took", 13),
+        ("client 0.1 gave", "client 0.2 gave", 13),
+    ];
+    show(&rt, rt.alloc(), 5, &cases)
+}
+
+#[test]
+fn a_server_that_no_line_names_is_refused(rt: HostRuntime) -> Result<(), Fail> {
+    let cases = [
+        ("pass 0.1 1 web/s1#1", "pass 0.1 1 web/s2#1", 9),
+        ("conn web/s1#1 sent", "conn wob/s1#1 sent", 14),
+        ("totals\nweb/s1", "totals\nweb/s2", 17),
+    ];
+    show(&rt, rt.alloc(), 7, &cases)
 }
 
 /// The greatest length of a text, and one more.
@@ -125,7 +220,9 @@ fn records(alloc: Global) -> Result<String, Fail> {
     for k in 0..SESSIONS {
         let n = k + 1;
         let (a, b, c, d) = (28 * k, 28 * n, 40 * k, 40 * n);
-        let line = format!(in alloc; "pass 0.{n} 1 web/s1#1 {n} ask 0-28 sent {a}-{b} took {c}-{d} gave 0-40 keep\nleft 0.{n} 28-28 end\n")?;
+        let line = format!(in alloc;
+            "pass 0.{n} 1 web/s1#1 {n} ask 0-28 sent {a}-{b} took {c}-{d} gave 0-40 keep\nleft 0.{n} 28-28 end\n"
+        )?;
         text.push_str(line.as_str())?;
     }
     Ok(text)
@@ -140,7 +237,9 @@ fn clients(alloc: Global) -> Result<String, Fail> {
     let mut text = String::new(alloc);
     for k in 0..SESSIONS {
         let n = k + 1;
-        let line = format!(in alloc; "client 0.{n} took \"{ASK}\"\nclient 0.{n} gave \"{ANSWER}\"\n")?;
+        let line = format!(in alloc;
+            "client 0.{n} took \"{ASK}\"\nclient 0.{n} gave \"{ANSWER}\"\n"
+        )?;
         text.push_str(line.as_str())?;
     }
     Ok(text)
