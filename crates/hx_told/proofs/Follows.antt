@@ -1,39 +1,36 @@
 -- The clients that are told are those of a script's lines, and the connections followed its plans.
-use Rattle.std.proofs.Common.{◌≡◌, ℕ, zero, suc, ◌+◌, ◌-◌, ◌<◌, ◌≤◌, true, List, [], ◌∷◌, ◌++◌, length, map, take, drop, All, refl, sym, ap, ◌∙◌, subst, arith, Option, Some, None, ⊎_elim, inl, inr, Result, Ok, Err}
-use Rattle.std.specs.Prelude.{◌⊎◌, Contains, IfOk, IsSome, slice_get}
-use Rattle.std.specs.List.{AllZip}
+use Rattle.std.proofs.Common.{◌≡◌, ℕ, zero, suc, ◌+◌, ◌-◌, ◌<◌, ◌≤◌, true, List, [], ◌∷◌, ◌++◌, length, map, take, drop, refl, sym, ap, ◌∙◌, subst, arith, Some, ⊎_elim, inl, inr, Result, Ok, Err}
+use Rattle.std.specs.Prelude.{Contains, IfOk, IsSome, slice_get}
 use Rattle.std.proofs.lemmas.List.{take_all, take-append-drop}
 use Rattle.std.proofs.lemmas.List.Elements.{All-weaker, All-contains_itself}
-use Rattle.hx_base.specs.declared.numbers.ConnId.{ConnId}
 use Rattle.hx_base.specs.declared.numbers.NoMemory.{NoMemory}
-use Rattle.hx_base.specs.declared.numbers.ServerNo.{ServerNo}
 use Rattle.hx_base.specs.declared.numbers.SessionNo.{SessionNo}
 use Rattle.hx_base.specs.declared.numbers.ThreadNo.{ThreadNo}
 use Rattle.hx_base.specs.declared.plan.Plan.{Plan}
 use Rattle.hx_connecting.specs.Sessions.{SessionNow}
 use Rattle.hx_conn.specs.WhatTold.{what_of_link}
-use Rattle.hx_link.specs.MemoryLinks.{MemoryLinkNow, KeepsPlan, state_of}
+use Rattle.hx_link.specs.MemoryLinks.{MemoryLinkNow}
 use Rattle.hx_link.specs.MemoryNets.{MemoryNetNow}
 use Rattle.hx_link.specs.Planned.{planned}
 use Rattle.hx_link.specs.Told.{LinkState}
 use Rattle.hx_plain.specs.PlainSeat.{first_thread}
-use Rattle.hx_planned.specs.Plans.{FollowsId, FollowsNumber, KeepsPlans}
+use Rattle.hx_planned.specs.Plans.{FollowsId, FollowsNumber}
 use Rattle.hx_record.specs.declared.bytes.ClientBytes.{ClientBytes}
 use Rattle.hx_record.specs.declared.bytes.ConnBytes.{ConnBytes}
 use Rattle.hx_record.specs.declared.served.Told.{Told}
-use Rattle.hx_course.specs.Endings.{TellsClient, TellsConn}
 use Rattle.hx_course.specs.Graves.{OfClient, OfConn, Grave, grave}
+use Rattle.hx_course.specs.Places.{IsInGrave}
 use Rattle.hx_run.specs.Courses.{EndsPlanned, plan_of}
 use Rattle.hx_script.specs.PrintedForm.{Rises, ClientBefore, ConnBefore}
 use Rattle.hx_script.specs.declared.transcript.Transcript.{Transcript}
 use Rattle.hx_script_parts.specs.declared.script.ClientLine.{ClientLine}
 use Rattle.hx_worker.specs.Workers.{session_of}
 use Rattle.hx_told.specs.Ends.{ends_of}
-use Rattle.hx_told.specs.Follows.{AreClientsOf, FollowsPlan, FollowsScript, IsClientOf, IsFrontOf}
+use Rattle.hx_told.specs.Follows.{AreClientsOf, FollowsPlan, FollowsScript, IsFrontOf}
 use Rattle.hx_told.specs.Links.{TellsBytes}
 use Rattle.hx_told.specs.Telling.{TellsLinks}
 use Rattle.hx_told.proofs.Ending.{buried_link, clients_told, no_client_else, no_conn_else}
-use Rattle.hx_told.proofs.Owned.{first_or_later, none_there, Owns}
+use Rattle.hx_told.proofs.Owned.{first_or_later, none_there}
 use Rattle.hx_told.proofs.Each.{contains_first, contains_next}
 
 some_same : {A : Type 0} (a b : A) → Some a ≡ Some b → a ≡ b
@@ -89,7 +86,7 @@ behind c (d ∷ clients) own r all x there =
     ⊎_elim (λ (low : c.worker.0 < d.worker.0). absurd (omega (arith, low, ap (λ (t : ThreadNo). t.0) own, ap (λ (t : ThreadNo). t.0) its)))
     (λ same. same.1) r.0 in
     ⊎_elim (λ (here : d ≡ x). subst (λ (y : ClientBytes). c.session.0 < y.session.0) here next)
-    (λ later. omega (arith, next, behind d clients its r.1 (λ y at. all y (contains_next d clients y at)) x later))
+    (λ later. omega (arith, next, behind d clients its r.1 (λ y h. all y (contains_next d clients y h)) x later))
     (first_or_later d clients x there)
 
 rest_rises : (c : ClientBytes) (clients : List ClientBytes) → Rises ClientBefore (c ∷ clients) → Rises ClientBefore clients
@@ -112,7 +109,7 @@ one_each n (line ∷ lines) (c ∷ clients) r among each =
     let after = behind c clients k.worker r (λ x there. (among x (contains_next c clients x there)).worker) in
     let first = each 0 (omega arith) in
     let is : c.session.0 ≡ n =
-    ⊎_elim (λ (here : c ≡ first.0). ap (λ (x : ClientBytes). x.session.0) here ∙ omega (arith, first.2))
+    ⊎_elim (λ (here : c ≡ first.0). omega (arith, ap (λ (x : ClientBytes). x.session.0) here, first.2))
     (λ later. absurd (omega (arith, after first.0 later, first.2, k.low)))
     (first_or_later c clients first.0 first.1) in
     let own : line ≡ k.line = first_at line lines (c.session.0 - n) k.line (omega (arith, is)) k.at in
@@ -189,8 +186,9 @@ module _ (lines : List ClientLine) (plans : List Plan) (records : List Told) (ne
       let k = no_conn_else records net clients conns e.graves tells e.course.buried e.course.owners.dials e.course.owners.lefts rise c there in
       let l : LinkState = k.0 in
       let m = link_is (grave (OfConn c.server c.id) l) k.1 in
+      let grave_is : IsInGrave e.graves c.server c.id (what_of_link l) = record { link = l; there = k.1; tells = refl } in
       let its : FollowsId plans c.server c.id l.plan =
-      e.follows.conns c.server c.id (what_of_link l) (inr (inr (record { link = l; there = k.1; tells = refl }))) in
+      e.follows.conns c.server c.id (what_of_link l) (inr (inr grave_is)) in
       record {
         low = its.low;
         plan = its.plan.0;
