@@ -46,8 +46,7 @@ roomier : (plans came : List Plan) (w r : WorkerNow) (net : NetState) (records :
 roomier plans came w r net records same h =
     let k = h.1 in
     let p = h.2 in
-    let both : Both plans came r net records h.0 = subst (λ (x : WorkerNow). Both plans came x net records h.0) (sym same)
-    (
+    let both : Both plans came r net records h.0 = subst (λ (x : WorkerNow). Both plans came x net records h.0) (sym same) (
       record { alone = k.alone; buried = k.buried; clients = k.clients; truth = k.truth; conns = k.conns; owners = k.owners; dials = k.dials },
       record { count = p.count; clients = p.clients; conns = p.conns; dials = p.dials; next = p.next },
     ) in
@@ -70,8 +69,7 @@ ordered_course plans came w r w' net net' what count records same k h =
 pub stepped_course : (plans came : List Plan) (w r w' : WorkerNow) (net net' : NetState) (n : SessionNo) (x : Step) (records records' : List Told) → IsRoomier w r → Steps r w' net net' n x → HasSeats r → HasSeats w'
     → records' ≡ records ++ lines_of x.served x.left → Has plans came w net records → Has plans came w' net' records'
 stepped_course plans came w r w' net net' n x records records' same k seats seats' told h =
-    let z = roomier plans came w r net records same h in
-    (
+    let z = roomier plans came w r net records same h in (
       z.0 ++ step_graves r w' net net' n x k,
       subst (λ (l : List Told). KeepsCourse w' net' l (z.0 ++ step_graves r w' net net' n x k)) (sym told) (course_step r w' net net' n x k records z.0 seats seats' z.1),
       plans_step r w' net net' n x k records came plans z.0 z.1 z.2,
@@ -82,8 +80,7 @@ pub stopped_course : (plans came : List Plan) (w r w' : WorkerNow) (net net' : N
     → records' ≡ records ++ lines_of x.served (Some x.left) → Has plans came w net records → Has plans came w' net' records'
 stopped_course plans came w r w' net net' o x records records' same s is seats told h =
     let k : StopsOne r w' net net' x = subst (λ (p : Option Stopped). StopsNext r w' net net' p) is s in
-    let z = roomier plans came w r net records same h in
-    (
+    let z = roomier plans came w r net records same h in (
       z.0 ++ stop_graves r w' net net' x k,
       subst (λ (l : List Told). KeepsCourse w' net' l (z.0 ++ stop_graves r w' net net' x k)) (sym told) (course_stop r w' net net' x k records z.0 seats z.1),
       plans_stop r w' net net' x k records came plans z.0 z.1 z.2,
@@ -137,8 +134,7 @@ comes_next a b due left line is comes plans ordered h =
     let came = h.0 in
     let order : ordered ≡ (came ++ line ∷ []) ++ reverse left =
     h.1 ∙ (ap (λ (l : List ClientLine). came ++ reverse l) is
-    ∙ (ap (λ (l : List ClientLine). came ++ l) (reverse-append left (line ∷ [])) ∙ sym (append_assoc came (line ∷ []) (reverse left)))) in
-    (
+    ∙ (ap (λ (l : List ClientLine). came ++ l) (reverse-append left (line ∷ [])) ∙ sym (append_assoc came (line ∷ []) (reverse left)))) in (
       came ++ line ∷ [],
       order,
       subst (λ (l : List Plan). HasCourse plans l b) (sym (map-append plan_of came (line ∷ []))) (comes plans (map plan_of came) h.2),

@@ -73,8 +73,7 @@ pub begins_course : (config : Meaning) (hs : List History) (js : List JournalRoo
     → (graves : List Grave) × KeepsCourse (new_worker first_thread config hs js) net.state [] graves × KeepsPlans [] plans (new_worker first_thread config hs js) net.state graves
 begins_course config hs js plans room net numbered b is =
     let state : net.state ≡ (new_net plans room).state = ap (λ (n : MemoryNetNow). n.state) is in
-    let unused : (i : ℕ) (h : History) → slice_get hs i ≡ Some h → h.seen ≡ [] = λ i h e. (begun_at (all_servers config.backs) hs i h b e).begins.unused.seen in
-    (
+    let unused : (i : ℕ) (h : History) → slice_get hs i ≡ Some h → h.seen ≡ [] = λ i h e. (begun_at (all_servers config.backs) hs i h b e).begins.unused.seen in (
       [],
       course_begin first_thread config hs js net.state
           (λ i h e. let k = begun_at (all_servers config.backs) hs i h b e in ap (λ (a : About). a.threads) k.begins.about)

@@ -112,8 +112,7 @@ one_each n (line ∷ lines) (c ∷ clients) r among each =
     ⊎_elim (λ (here : c ≡ first.0). omega (arith, ap (λ (x : ClientBytes). x.session.0) here, first.2))
     (λ later. absurd (omega (arith, after first.0 later, first.2, k.low)))
     (first_or_later c clients first.0 first.1) in
-    let own : line ≡ k.line = first_at line lines (c.session.0 - n) k.line (omega (arith, is)) k.at in
-    (
+    let own : line ≡ k.line = first_at line lines (c.session.0 - n) k.line (omega (arith, is)) k.at in (
       record { worker = k.worker; session = is; took = subst (λ (x : ClientLine). IsFrontOf x.plan c.took) (sym own) k.took },
       one_each (n + 1) lines clients (rest_rises c clients r)
           (λ x there.

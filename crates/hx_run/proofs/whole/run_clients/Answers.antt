@@ -10,7 +10,7 @@ loop-line-preserved c = (
   goes_both c.args.running.now c.loop-line.running c.come.new.self c.loop-line.invariant.0 c.come.ensures.goes,
   c.client.ensures.due c.args.running.now.worker.config c.loop-line.invariant.1,
   comes_both c.args.running.now c.loop-line.running c.come.new.self _ _ _ c.loop-line.invariant.2
-  (comes_next c.loop-line.running c.come.new.self _ _ c.in-Some.line c.in-Some.ensures.next c.in_ok-come.ensures.course),
+      (comes_next c.loop-line.running c.come.new.self _ _ c.in-Some.line c.in-Some.ensures.next c.in_ok-come.ensures.course),
 )
 
 pub returns-in_err-come-clause-due : goal.returns-in_err-come-clause-due
