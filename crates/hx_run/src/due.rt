@@ -1,5 +1,5 @@
 //! What comes at the moments of a script.
-ghost use Rattle.std.specs.Prelude.{◌≡◌, ◌<◌, ◌∷◌, [], ◌++◌, None, true, All, IfOk, IfSome, IsSome, length, reverse};
+ghost use Rattle.std.specs.Prelude.{◌≡◌, ◌<◌, ◌∷◌, [], ◌++◌, true, All, IfNone, IfOk, IfSome, IsSome, length, reverse};
 ghost use Rattle.std.specs.List.Sorted.{IsPermutation};
 ghost use Rattle.hx_config.specs.Meaning.{Meaning};
 ghost use Rattle.hx_script_parts.specs.Limits.{is_client_of};
@@ -60,7 +60,7 @@ impl Due {
         ensures client { (c : Meaning) → AreDue c self.old → IfSome result (λ line. is_client_of c line ≡ true) }
         ensures fewer { IsSome result → length self.new.clients.items < length self.old.clients.items }
         ensures next { IfSome result (λ line. self.old.clients.items ≡ self.new.clients.items ++ line ∷ []) }
-        ensures none { result ≡ None → self.new.clients.items ≡ self.old.clients.items }
+        ensures none { IfNone result (self.new.clients.items ≡ self.old.clients.items) }
     {
         match self.clients.last() {
             Some(line) if line.moment.0 == now.0 => self.clients.pop(),

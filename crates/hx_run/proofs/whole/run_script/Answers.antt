@@ -51,7 +51,7 @@ followed c =
     let plans = c.args.script.plans in
     let begun : HasCourse plans [] c.in_ok-running.running = subst (λ (l : List Plan). HasCourse l [] c.in_ok-running.running) c.into_vec-plans.ensures c.in_ok-running.ensures.course in
     let came : HasCourse plans (map plan_of (ordered c)) c.run_moments.new.running =
-    all_come plans (ordered c) _ _ _ _ begun refl c.in_ok-all_came.ensures c.in_ok-run_moments.ensures.course in
+    all_come plans (ordered c) c.in_ok-clients_due.field-0.items c.run_moments.new.due.clients.items c.in_ok-running.running c.run_moments.new.running begun refl c.in_ok-all_came.ensures.none c.in_ok-run_moments.ensures.course in
     c.in_ok-drain_all.ensures.course plans (map plan_of (ordered c)) (c.in_ok-stop_all.ensures.course plans (map plan_of (ordered c)) came)
 
 pub returns-clause-course : goal.returns-clause-course
