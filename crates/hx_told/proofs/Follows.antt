@@ -1,6 +1,7 @@
 -- The clients that are told are those of a script's lines, and the connections followed its plans.
 use Rattle.std.proofs.Common.{◌≡◌, ℕ, zero, suc, ◌+◌, ◌-◌, ◌<◌, ◌≤◌, true, List, [], ◌∷◌, ◌++◌, length, map, take, drop, refl, sym, ap, ◌∙◌, subst, arith, Some, ⊎_elim, inl, inr, Result, Ok, Err}
 use Rattle.std.specs.Prelude.{Contains, IfOk, IsSome, slice_get}
+use Rattle.std.proofs.lemmas.Bool.{false≢true}
 use Rattle.std.proofs.lemmas.List.{take_all, take-append-drop}
 use Rattle.std.proofs.lemmas.List.Elements.{All-weaker, All-contains_itself}
 use Rattle.hx_base.specs.declared.numbers.NoMemory.{NoMemory}
@@ -143,7 +144,7 @@ planned_count [] = refl
 planned_count (line ∷ lines) = ap suc (planned_count lines)
 
 none_there_is : (sessions : List SessionNow) (n : ℕ) → sessions ≡ [] → IsSome (session_of sessions n) → ⊥
-none_there_is sessions n none some = subst (λ (l : List SessionNow). IsSome (session_of l n)) none some
+none_there_is sessions n none some = false≢true (subst (λ (l : List SessionNow). IsSome (session_of l n)) none some)
 
 -- ---- what is told
 
