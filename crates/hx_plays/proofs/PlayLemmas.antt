@@ -18,6 +18,7 @@ use Rattle.hx_script_parts.specs.declared.fault.Flaw.TheVariants as flaw
 use Rattle.hx_script_parts.specs.declared.fault.Rule.TheVariants.{TooLong}
 use Rattle.hx_config.specs.Limits.{all_servers}
 use Rattle.hx_run.specs.Overs.{AreOver}
+use Rattle.hx_told.specs.Follows.{FollowsScript}
 use Rattle.hx_told.specs.Servers.{named_servers, parts_of}
 use Rattle.std.specs.Prelude.{IfOk}
 use Rattle.hx_base.specs.declared.numbers.NoMemory.{NoMemory}
@@ -48,15 +49,16 @@ over_ran a b seats e o = subst (λ (c : Config). AreOver (all_servers c.backs) s
 
 -- what is told of a replay that is over
 pub tells_of : (script : Script) (config : Config) (seats : List Journal) (t : Transcript) (text : List ℕ) (ends : Ends) → config ≡ script.config
-    → AreOver (all_servers script.config.backs) seats → t.servers ≡ parts_of (named_servers config.backs) seats → IsTrueTranscript t ends → Spells text t
+    → AreOver (all_servers script.config.backs) seats → t.servers ≡ parts_of (named_servers config.backs) seats → IsTrueTranscript t ends
+    → FollowsScript script.clients script.plans ends t.clients t.conns → Spells text t
     → TellsServers (meaning script) text
-tells_of script config seats t text ends e o s a p = record {
+tells_of script config seats t text ends e o s a f p = record {
   transcript = t;
   spells = p;
   seats = seats;
   each = over_count (all_servers script.config.backs) seats o;
   servers = s ∙ ap (λ (c : Config). parts_of (named_servers c.backs) seats) e;
-  is_true = (ends, a);
+  script_told = record { ends = ends; is_true = a; follows = f };
 }
 
 at_flaw : (bytes : List ℕ) (line rule : ℕ) (f : Flaw) → meaning_of bytes ≡ Err f → fault.At line rule ≡ fault_of f → HasScriptFault bytes line rule

@@ -10,20 +10,28 @@ use Rattle.hx_script_parts.specs.Meaning.{Meaning, longest_text, meaning_of}
 use Rattle.hx_script_parts.specs.declared.fault.Flaw.TheVariants as flaw
 use Rattle.hx_script_parts.specs.declared.fault.Rule.{Rule}
 use Rattle.hx_script_parts.specs.declared.fault.Rule.TheVariants.{BadWorker}
+use Rattle.hx_told.specs.Follows.{FollowsScript}
 use Rattle.hx_told.specs.Servers.{named_servers, parts_of}
 use Rattle.hx_plays.specs.declared.plays.Replay.{Replay}
 use Rattle.hx_plays.specs.declared.plays.Replay.TheVariants as replay
 
+-- of the transcript some connections count as ended: all that it tells is true, and its clients are those of the script's lines,
+-- one to one by moment and line, its connections followed the script's plans, and only one whose plan has an end counts as ended
+pub record TellsScript (script : Meaning) (t : Transcript) : Type 0 where
+  pub ends : Ends
+  pub is_true : IsTrueTranscript t ends
+  pub follows : FollowsScript script.clients script.plans ends t.clients t.conns
+
 -- the text spells a transcript whose servers are those of the configuration, in order, by name and rules, each with the marks
--- of one journal; and all that it tells is true, where some of the connections' links told their ends: each record, each
--- range, and each server's marks and totals, in whose history every connection that was opened is closed at the end
+-- of one journal; and all that it tells is true and of the script's lines: each record, each range, each client and connection,
+-- and each server's marks and totals, in whose history every connection that was opened is closed at the end
 pub record TellsServers (script : Meaning) (text : List ℕ) : Type 0 where
   pub transcript : Transcript
   pub spells : Spells text transcript
   pub seats : List Journal
   pub each : length seats ≡ length (all_servers script.config.backs)
   pub servers : transcript.servers ≡ parts_of (named_servers script.config.backs) seats
-  pub is_true : (ends : Ends) × IsTrueTranscript transcript ends
+  pub script_told : TellsScript script transcript
 
 -- the bytes are a script of one thread, and the text is that of a true transcript of its servers
 pub record Plays (bytes text : List ℕ) : Type 0 where

@@ -1,5 +1,5 @@
 -- At the beginning of a replay nothing was told, and at its end nothing is left.
-use Rattle.std.proofs.Common.{◌≡◌, ◌≢◌, ℕ, zero, suc, ◌+◌, ◌<◌, ◌≤◌, List, [], ◌∷◌, length, refl, sym, ap, ◌∙◌, subst, arith, inl, inr, ⊎_elim, Option, Some, None}
+use Rattle.std.proofs.Common.{◌≡◌, ◌≢◌, ℕ, zero, suc, ◌+◌, ◌<◌, ◌≤◌, List, [], ◌∷◌, length, map, refl, sym, ap, ◌∙◌, subst, arith, inl, inr, ⊎_elim, Option, Some, None}
 use Rattle.std.specs.Prelude.{slice_get, true, ◌==◌}
 use Rattle.std.proofs.lemmas.Bool.{eqb-true, and_parts}
 use Rattle.hx_base.specs.declared.numbers.ConnId.{ConnId}
@@ -30,9 +30,13 @@ use Rattle.hx_pool.specs.declared.entries.Note.{Note}
 use Rattle.hx_record.specs.declared.served.Told.{Told}
 use Rattle.hx_worker.specs.Workers.{WorkerNow, Each, new_worker}
 use Rattle.hx_run.specs.Begins.{BeginsFor, BeginFor}
-use Rattle.hx_run.specs.Courses.{HasCourse, EndsCourse}
+use Rattle.hx_planned.proofs.BeginPlans.{plans_begin}
+use Rattle.hx_planned.specs.Plans.{KeepsPlans}
+use Rattle.hx_script_parts.specs.declared.script.ClientLine.{ClientLine}
+use Rattle.hx_run.specs.Courses.{EndsCourse, EndsPlanned, plan_of}
+use Rattle.hx_run.specs.Dues.{ComeInOrder}
 use Rattle.hx_run.specs.Overs.{AllClosed, ClosedBelow}
-use Rattle.hx_run.specs.Runs.{RunNow, IsWorking, run_now}
+use Rattle.hx_run.specs.Runs.{IsWorking}
 
 -- ---- the beginning
 
@@ -66,17 +70,19 @@ number_at k (x ∷ ss) (suc i) s n e =
 
 pub begins_course : (config : Meaning) (hs : List History) (js : List JournalRoom) (plans : List Plan) (room : ℕ) (net : MemoryNetNow) → are_numbered 0 (all_servers config.backs) ≡ true
     → BeginFor (all_servers config.backs) hs → net ≡ new_net plans room
-    → (graves : List Grave) × KeepsCourse (new_worker first_thread config hs js) net.state [] graves
+    → (graves : List Grave) × KeepsCourse (new_worker first_thread config hs js) net.state [] graves × KeepsPlans [] plans (new_worker first_thread config hs js) net.state graves
 begins_course config hs js plans room net numbered b is =
-    let state : net.state ≡ (new_net plans room).state = ap (λ (n : MemoryNetNow). n.state) is in (
+    let state : net.state ≡ (new_net plans room).state = ap (λ (n : MemoryNetNow). n.state) is in
+    let unused : (i : ℕ) (h : History) → slice_get hs i ≡ Some h → h.seen ≡ [] = λ i h e. (begun_at (all_servers config.backs) hs i h b e).begins.unused.seen in (
       [],
       course_begin first_thread config hs js net.state
           (λ i h e. let k = begun_at (all_servers config.backs) hs i h b e in ap (λ (a : About). a.threads) k.begins.about)
           (λ i h e. let k = begun_at (all_servers config.backs) hs i h b e in
           let no : h.about.server.0 ≡ k.server.no.0 = ap (λ (a : About). a.server.0) k.begins.about in
           omega (arith, no, number_at 0 (all_servers config.backs) i k.server numbered k.at))
-          (λ i h e. (begun_at (all_servers config.backs) hs i h b e).begins.unused.seen)
+          unused
           (inl (ap (λ (n : NetState). n.buried) state)) (inl (ap (λ (n : NetState). n.dials) state)),
+      plans_begin first_thread config hs js net.state (record { plans = plans; failing = None }) unused (ap (λ (n : NetState). n.course) state) (inl (ap (λ (n : NetState). n.dials) state)),
     )
 
 -- ---- the end
@@ -146,6 +152,11 @@ nothing_left w k none c = record {
       (c server.0 r.seat (there_below w.seats server.0 r.seat r.at) r.at) id.0 r.place r.rests;
 }
 
-pub ends_course : (w : WorkerNow) (net : NetState) (records : List Told) → IsWorking w → w.sessions ≡ [] → ClosedBelow (length w.seats) w.seats
-    → (graves : List Grave) × KeepsCourse w net records graves → EndsCourse records net
-ends_course w net records k none c h = record { worker = w; graves = h.0; course = h.1; empty = nothing_left w k none c }
+pub ends_course : (plans came : List Plan) (w : WorkerNow) (net : NetState) (records : List Told) → IsWorking w → w.sessions ≡ [] → ClosedBelow (length w.seats) w.seats
+    → (graves : List Grave) × KeepsCourse w net records graves × KeepsPlans came plans w net graves → EndsCourse records net
+ends_course plans came w net records k none c h = record { worker = w; graves = h.0; course = h.1; empty = nothing_left w k none c }
+
+-- and each client came
+pub ends_planned : (clients ordered : List ClientLine) (plans : List Plan) (w : WorkerNow) (net : NetState) (records : List Told) → IsWorking w → w.sessions ≡ [] → ClosedBelow (length w.seats) w.seats → ComeInOrder clients ordered
+    → (graves : List Grave) × KeepsCourse w net records graves × KeepsPlans (map plan_of ordered) plans w net graves → EndsPlanned clients plans records net
+ends_planned clients ordered plans w net records k none c order h = record { ordered = ordered; in_order = order; worker = w; one = k.thread; graves = h.0; course = h.1; empty = nothing_left w k none c; follows = h.2 }

@@ -1,20 +1,46 @@
 -- What holds of all that was told in a replay so far, and that its calls keep it.
-use Rattle.std.specs.Prelude.{List}
+use Rattle.std.specs.Prelude.{◌≡◌, List, [], ◌∷◌, ◌++◌, map, reverse}
+use Rattle.hx_base.specs.declared.plan.Plan.{Plan}
 use Rattle.hx_course.specs.Courses.{KeepsCourse}
 use Rattle.hx_course.specs.Endings.{IsEmptied}
 use Rattle.hx_course.specs.Graves.{Grave}
 use Rattle.hx_link.specs.Nets.{NetState}
+use Rattle.hx_plain.specs.PlainSeat.{first_thread}
+use Rattle.hx_planned.specs.Plans.{KeepsPlans}
 use Rattle.hx_record.specs.declared.served.Told.{Told}
-use Rattle.hx_run.specs.Runs.{RunNow}
+use Rattle.hx_script_parts.specs.declared.script.ClientLine.{ClientLine}
 use Rattle.hx_worker.specs.Workers.{WorkerNow}
+use Rattle.hx_run.specs.Dues.{ComeInOrder}
+use Rattle.hx_run.specs.Runs.{RunNow}
 
--- its records and the links that its net buried, whoever's they were, are those of a course of its worker's calls
-abbrev pub HasCourse : RunNow → Type 0
-HasCourse r = (graves : List Grave) × KeepsCourse r.worker r.net.state r.records graves
+-- its records and the links that its net buried, whoever's they were, are those of a course of its worker's calls, in which each
+-- link followed its plan: the connections these plans, and the clients that came those
+abbrev pub HasCourse : List Plan → List Plan → RunNow → Type 0
+HasCourse plans came r =
+    (graves : List Grave) × KeepsCourse r.worker r.net.state r.records graves
+    × KeepsPlans came plans r.worker r.net.state graves
 
--- a call keeps that
+-- a call keeps that, and no client comes in it
 abbrev pub KeepsOn : RunNow → RunNow → Type 0
-KeepsOn a b = HasCourse a → HasCourse b
+KeepsOn a b = (plans came : List Plan) → HasCourse plans came a → HasCourse plans came b
+
+-- a call keeps it, and the client of that plan comes
+abbrev pub ComesOn : Plan → RunNow → RunNow → Type 0
+ComesOn plan a b = (plans came : List Plan) → HasCourse plans came a → HasCourse plans (came ++ plan ∷ []) b
+
+-- the plan of a client's link
+abbrev pub plan_of : ClientLine → Plan
+plan_of line = line.plan
+
+-- of the clients in order those at the beginning came, and the others are due, the next one last
+abbrev pub HasCome : List Plan → List ClientLine → List ClientLine → RunNow → Type 0
+HasCome plans ordered due r =
+    (came : List ClientLine) × (ordered ≡ came ++ reverse due) × HasCourse plans (map plan_of came) r
+
+-- calls keep that: clients that are due no more came
+abbrev pub ComesAll : RunNow → List ClientLine → RunNow → List ClientLine → Type 0
+ComesAll a due b left =
+    (plans : List Plan) (ordered : List ClientLine) → HasCome plans ordered due a → HasCome plans ordered left b
 
 -- what was told and the links that the net buried are those of a course of a worker at which nothing is left: no session is
 -- there, and no connection rests
@@ -23,3 +49,16 @@ pub record EndsCourse (records : List Told) (net : NetState) : Type 0 where
   pub graves : List Grave
   pub course : KeepsCourse worker net records graves
   pub empty : IsEmptied worker
+
+-- in such a course each link followed its plan in the script: its clients came by moment, in the order of their lines, and each
+-- became the session of the next number
+pub record EndsPlanned (clients : List ClientLine) (plans : List Plan) (records : List Told) (net : NetState) : Type 0 where
+  -- the clients as they came
+  pub ordered : List ClientLine
+  pub in_order : ComeInOrder clients ordered
+  pub worker : WorkerNow
+  pub one : worker.thread ≡ first_thread
+  pub graves : List Grave
+  pub course : KeepsCourse worker net records graves
+  pub empty : IsEmptied worker
+  pub follows : KeepsPlans (map plan_of ordered) plans worker net graves

@@ -12,7 +12,7 @@ ghost use Rattle.hx_pool.specs.Journal.{Journal, journal_from};
 ghost use Rattle.hx_run.specs.Overs.{HasRoom, ClosedBelow};
 ghost use Rattle.hx_run.specs.Rooms.{RoomBelow};
 ghost use Rattle.hx_run.specs.Runs.{GoesOn, IsRun, IsWorking, IsRoomier, CarriedOut, Ticked, StopsFirst};
-ghost use Rattle.hx_run.specs.Courses.{HasCourse, KeepsOn};
+ghost use Rattle.hx_run.specs.Courses.{ComesOn, HasCourse, KeepsOn};
 ghost use Rattle.hx_course.specs.Lines.{lines_of};
 ghost use Rattle.hx_run.specs.declared.running.Halt.TheVariants as halt;
 
@@ -23,7 +23,7 @@ use hx_link::{MemoryLink, MemoryNet, Net, Plan};
 use hx_record::{Left, Served, Told};
 use hx_script_parts::ClientLine;
 use hx_session::{Step, Waits};
-use hx_worker::{NoEntry, Worker};
+use hx_worker::Worker;
 use std::alloc::Global;
 use std::marker::Model;
 
@@ -155,7 +155,7 @@ impl<'a> Running<'a> {
         requires plans { All IsPlan plans.items }
         ensures config { IfOk result (λ r. r.worker.config ≡ meaning config.now) }
         ensures empty { IfOk result (λ r. (r.worker.sessions ≡ []) × (r.records ≡ []) × (r.turns ≡ 0) × (r.most ≡ most)) }
-        ensures course { IfOk result HasCourse }
+        ensures course { IfOk result (HasCourse plans.items []) }
     {
         let seats = seats_of(alloc, config)?;
         let net = MemoryNet::new(alloc, plans, room)?;
@@ -177,28 +177,26 @@ impl<'a> Running<'a> {
         self.turns
     }
 
-    /// A client comes: its link is attached to the loop, and its session begins. One that can't is buried.
+    /// A client comes: its link is attached to the loop, and its session begins.
     ///
     /// # Errors
-    /// `NoMemory`.
+    /// `NoMemory`; one that can't be attached or admitted is buried first. Of a script none is: it has fewer clients than a
+    /// worker takes, and a net in memory has room for each link.
     pub fn come(&mut self, line: ClientLine, now: Millis) -> Result<(), NoMemory>
         requires client { is_client_of self.old.worker.config line ≡ true }
         ensures goes { GoesOn self.old self.new }
-        ensures course { OnOk result (KeepsOn self.old self.new) }
+        ensures course { OnOk result (ComesOn line.plan self.old self.new) }
     {
         let mut link = MemoryLink::new(line.plan);
         if self.net.attach(&mut link).is_err() {
             self.net.bury(link);
-            return Ok(());
+            return Err(NoMemory);
         }
         match self.worker.admit(link, line.front, now) {
             Ok(_) => Ok(()),
             Err(refused) => {
                 self.net.bury(refused.client);
-                match refused.why {
-                    NoEntry::NoMemory => Err(NoMemory),
-                    NoEntry::SessionsFull | NoEntry::NumbersSpent => Ok(()),
-                }
+                Err(NoMemory)
             }
         }
     }

@@ -1,10 +1,10 @@
 //! The replay of a whole script, by its moments.
-ghost use Rattle.std.specs.Prelude.{◌≡◌, false, IfOk, OnOk};
+ghost use Rattle.std.specs.Prelude.{◌≡◌, [], false, IfOk, OnOk};
 ghost use Rattle.hx_config.specs.Limits.{all_servers};
 ghost use Rattle.hx_config.specs.Views.{meaning};
 ghost use Rattle.hx_run.specs.Dues.{AreDue};
 ghost use Rattle.hx_run.specs.Overs.{AreOver};
-ghost use Rattle.hx_run.specs.Courses.{KeepsOn, EndsCourse};
+ghost use Rattle.hx_run.specs.Courses.{ComesAll, EndsCourse, EndsPlanned, KeepsOn};
 ghost use Rattle.hx_run.specs.Runs.{GoesOn};
 
 use crate::due::{Due, clients_due, orders_due};
@@ -19,6 +19,7 @@ fn run_orders(running: &mut Running<'_>, due: &mut Due, now: Millis) -> Result<(
     requires due { AreDue running.old.worker.config due.old }
     ensures goes { GoesOn running.old running.new }
     ensures due { AreDue running.old.worker.config due.new }
+    ensures clients { due.new.clients.items ≡ due.old.clients.items }
     ensures course { OnOk result (KeepsOn running.old running.new) }
 {
     while let Some(what) = due.order(now) {
@@ -32,7 +33,7 @@ fn run_clients(running: &mut Running<'_>, due: &mut Due, now: Millis) -> Result<
     requires due { AreDue running.old.worker.config due.old }
     ensures goes { GoesOn running.old running.new }
     ensures due { AreDue running.old.worker.config due.new }
-    ensures course { OnOk result (KeepsOn running.old running.new) }
+    ensures course { OnOk result (ComesAll running.old due.old.clients.items running.new due.new.clients.items) }
 {
     while let Some(line) = due.client(now) {
         running.come(line, now)?;
@@ -45,7 +46,7 @@ fn run_moment(running: &mut Running<'_>, due: &mut Due, now: Millis) -> Result<(
     requires due { AreDue running.old.worker.config due.old }
     ensures goes { GoesOn running.old running.new }
     ensures due { AreDue running.old.worker.config due.new }
-    ensures course { OnOk result (KeepsOn running.old running.new) }
+    ensures course { OnOk result (ComesAll running.old due.old.clients.items running.new due.new.clients.items) }
 {
     run_orders(running, due, now)?;
     run_clients(running, due, now)?;
@@ -57,12 +58,26 @@ fn run_moment(running: &mut Running<'_>, due: &mut Due, now: Millis) -> Result<(
 fn run_moments(running: &mut Running<'_>, due: &mut Due, moments: &[Millis]) -> Result<(), Halt>
     requires due { AreDue running.old.worker.config due.old }
     ensures goes { GoesOn running.old running.new }
-    ensures course { OnOk result (KeepsOn running.old running.new) }
+    ensures course { OnOk result (ComesAll running.old due.old.clients.items running.new due.new.clients.items) }
 {
     for now in moments {
         run_moment(running, due, *now)?;
     }
     Ok(())
+}
+
+/// No client is due any more. Behind the last moment that is always so, since the moments of a script have that of each of
+/// its clients.
+///
+/// # Errors
+/// `NoMemory` where one is.
+fn all_came(due: &Due) -> Result<(), NoMemory>
+    ensures none { OnOk result (due.now.clients.items ≡ []) }
+{
+    match due.clients.last() {
+        None => Ok(()),
+        Some(_) => Err(NoMemory),
+    }
 }
 
 /// Replays a script of one thread: its moments in order, and behind the last one each session is stopped and each server is
@@ -75,6 +90,7 @@ pub fn run_script(alloc: Global, script: Script, most: u64) -> Result<Ran, Halt>
     ensures over { IfOk result (λ ran. AreOver (all_servers script.config.backs) ran.seats) }
     ensures told { IfOk result (λ ran. ran.net.starved ≡ false) }
     ensures course { IfOk result (λ ran. EndsCourse ran.records ran.net.state) }
+    ensures plans { IfOk result (λ ran. EndsPlanned script.clients script.plans ran.records ran.net.state) }
 {
     let Script {
         config,
@@ -92,6 +108,7 @@ pub fn run_script(alloc: Global, script: Script, most: u64) -> Result<Ran, Halt>
     let room = plans.len() + due.clients.len();
     let mut running = Running::new(alloc, &config, plans, room, most)?;
     run_moments(&mut running, &mut due, moments.as_slice())?;
+    all_came(&due)?;
     running.stop_all()?;
     running.drain_all()?;
     let over = running.end()?;

@@ -65,6 +65,12 @@ module _ (records : List Told) (net : MemoryNetNow) (clients : List ClientBytes)
       ap (λ (ps : List (ThreadNo × SessionNo)). length ps) sessions_are ∙ length-map (lefts_of records) session_of_left ∙ sym tells.each in
       all_owned graves tells.links (all_fit graves tells.links same_links dials tells.kept.bytes) as_many
 
+  -- the link of a grave
+  pub buried_link : (g : Grave) → Contains graves g → (m : MemoryLinkNow) × (m.state ≡ g.link) × TellsBytes m
+  buried_link g there =
+      let r = beside_left Owns graves tells.links each_owned g there in
+      (r.0, r.2.state, r.2.bytes)
+
   pub clients_told : (u : ThreadNo) (n : SessionNo) (l : LinkState) → Contains graves (grave (OfClient u n) l) → (c : ClientBytes) × Contains clients c × TellsClient u n l c
   clients_told u n l there =
       let r = (all_clients graves tells.links (lefts_of records) each_owned sessions_are).0 u n l there in

@@ -2,6 +2,7 @@ pub mod Clients
 pub mod Dials
 pub mod Each
 pub mod Ending
+pub mod Follows
 pub mod Names
 pub mod Overs
 pub mod Owned

@@ -1,4 +1,5 @@
 pub mod Ends
+pub mod Follows
 pub mod Links
 pub mod Orders
 pub mod Places

@@ -1,7 +1,11 @@
-use Rattle.std.proofs.Common.{List, sym, subst}
-use Rattle.std.specs.List.Sorted.{IsPermutation}
-use Rattle.std.proofs.lemmas.List.Sorted.{IsPermutation-trans}
+use Rattle.std.proofs.Common.{◌≡◌, List, ap, rules, sym, subst, ◌∙◌}
+use Rattle.std.specs.Prelude.{reverse}
+use Rattle.std.specs.List.Sorted.{IsPermutation, IsStableByKey}
+use Rattle.std.specs.Ordering.{nat_cmp}
+use Rattle.std.proofs.lemmas.List.{reverse-reverse}
+use Rattle.std.proofs.lemmas.List.Sorted.{IsPermutation-trans, IsNonDecreasingBy-from_sort_by_key, answers_always}
 use Rattle.hx_script_parts.specs.declared.script.ClientLine.{ClientLine}
+use Rattle.hx_run.specs.Dues.{ComeInOrder, moment_of}
 use Rattle.hx_run.proofs.due.clients_due.Goals as goal
 
 pub returns-clause-same : goal.returns-clause-same
@@ -9,3 +13,14 @@ returns-clause-same c =
     IsPermutation-trans c.args.clients c.sort_by_key.new.self.items c.reverse.new.self.items
     (subst (λ (l : List ClientLine). IsPermutation l c.sort_by_key.new.self.items) c.into_vec-due.ensures c.sort_by_key.ensures.permutation)
     c.reverse.ensures.permutation
+
+pub returns-clause-in_order : goal.returns-clause-in_order
+returns-clause-in_order c =
+    let sorted = c.sort_by_key.new.self.items in
+    let back : reverse c.reverse.new.self.items ≡ sorted = ap (λ (l : List ClientLine). reverse l) c.reverse.ensures.items ∙ reverse-reverse sorted in
+    subst (λ (l : List ClientLine). ComeInOrder c.args.clients l) (sym back) (record {
+      same = subst (λ (l : List ClientLine). IsPermutation l sorted) c.into_vec-due.ensures c.sort_by_key.ensures.permutation;
+      rising = IsNonDecreasingBy-from_sort_by_key moment_of _ c.in_ok-sort_by_key.ensures.sorted (λ a r q k. search rules);
+      ties = subst (λ (l : List ClientLine). IsStableByKey moment_of nat_cmp l sorted) c.into_vec-due.ensures
+          (c.sort_by_key.ensures.stable moment_of (answers_always _ _ _ (λ f a r g h. search rules)));
+    })

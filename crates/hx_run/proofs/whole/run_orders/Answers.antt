@@ -1,4 +1,4 @@
-use Rattle.std.proofs.Common.{sym, subst}
+use Rattle.std.proofs.Common.{sym, subst, ◌∙◌}
 use Rattle.hx_config.specs.Meaning.{Meaning}
 use Rattle.hx_run.specs.Dues.{IsThere}
 use Rattle.hx_run.proofs.Working.{goes_both}
@@ -14,7 +14,8 @@ pub loop-what-preserved : goal.loop-what-preserved
 loop-what-preserved c = (
   goes_both c.args.running.now c.loop-what.running c.order-in-Some.new.self c.loop-what.invariant.0 c.order-in-Some.ensures.goes,
   c.order.ensures.due c.args.running.now.worker.config c.loop-what.invariant.1,
-  λ h. c.in_ok-order.ensures.course (c.loop-what.invariant.2 h),
+  λ plans came h. c.in_ok-order.ensures.course plans came (c.loop-what.invariant.2 plans came h),
+  c.order.ensures.clients ∙ c.loop-what.invariant.3,
 )
 
 pub returns-in_err-order-clause-due : goal.returns-in_err-order-clause-due

@@ -1,11 +1,11 @@
-use Rattle.std.proofs.Common.{length}
+use Rattle.std.proofs.Common.{◌≡◌, length}
 use Rattle.hx_run.specs.Courses.{KeepsOn}
 use Rattle.hx_run.specs.Dues.{AreDue}
 use Rattle.hx_run.specs.Runs.{GoesOn}
 use Rattle.hx_run.proofs.whole.run_orders.Given as goal
 
 abbrev pub invariant-loop-what : goal.invariant-loop-what
-invariant-loop-what l = GoesOn l.fn.running l.running × AreDue l.fn.running.worker.config l.due × KeepsOn l.fn.running l.running
+invariant-loop-what l = GoesOn l.fn.running l.running × AreDue l.fn.running.worker.config l.due × KeepsOn l.fn.running l.running × (l.due.clients.items ≡ l.fn.due.clients.items)
 
 abbrev pub decreases-loop-what : goal.decreases-loop-what
 decreases-loop-what l = length l.due.orders.items

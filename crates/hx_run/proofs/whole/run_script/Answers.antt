@@ -1,4 +1,5 @@
-use Rattle.std.proofs.Common.{◌≡◌, List, All, sym, ap, subst, ◌∙◌}
+use Rattle.std.proofs.Common.{◌≡◌, List, [], All, map, refl, sym, ap, subst, ◌∙◌}
+use Rattle.std.specs.Prelude.{reverse}
 use Rattle.hx_base.specs.declared.plan.Plan.{Plan}
 use Rattle.hx_config.specs.Limits.{all_servers}
 use Rattle.hx_config.specs.Meaning.{Meaning}
@@ -9,9 +10,11 @@ use Rattle.hx_run.specs.Dues.{AreDue}
 use Rattle.hx_run.specs.Overs.{AreOver}
 use Rattle.hx_link.specs.Nets.{NetState}
 use Rattle.hx_record.specs.declared.served.Told.{Told}
-use Rattle.hx_run.proofs.Ending.{ends_course}
+use Rattle.hx_script_parts.specs.declared.script.ClientLine.{ClientLine}
+use Rattle.hx_run.proofs.Coursing.{all_come}
+use Rattle.hx_run.proofs.Ending.{ends_course, ends_planned}
 use Rattle.hx_run.proofs.Working.{all_plans, all_due, run_over}
-use Rattle.hx_run.specs.Courses.{EndsCourse}
+use Rattle.hx_run.specs.Courses.{EndsCourse, EndsPlanned, HasCourse, plan_of}
 use Rattle.hx_run.proofs.whole.run_script.Goals as goal
 
 pub new-requires : goal.new-requires
@@ -39,13 +42,36 @@ returns-clause-over c =
     subst (λ (l : List Journal). AreOver (all_servers c.args.script.config.backs) l) (sym c.from_vec-2.ensures)
     (subst (λ (m : Meaning). AreOver (all_servers m.backs) seats) config over)
 
+-- the clients as they come
+abbrev ordered : goal.After-drop-moments-inside-2 → List ClientLine
+ordered c = reverse c.in_ok-clients_due.field-0.items
+
+followed : (c : goal.After-drop-moments-inside-2) → HasCourse c.args.script.plans (map plan_of (ordered c)) c.drain_all.new.self
+followed c =
+    let plans = c.args.script.plans in
+    let begun : HasCourse plans [] c.in_ok-running.running = subst (λ (l : List Plan). HasCourse l [] c.in_ok-running.running) c.into_vec-plans.ensures c.in_ok-running.ensures.course in
+    let came : HasCourse plans (map plan_of (ordered c)) c.run_moments.new.running =
+    all_come plans (ordered c) c.in_ok-clients_due.field-0.items c.run_moments.new.due.clients.items c.in_ok-running.running c.run_moments.new.running begun refl c.in_ok-all_came.ensures.none c.in_ok-run_moments.ensures.course in
+    c.in_ok-drain_all.ensures.course plans (map plan_of (ordered c)) (c.in_ok-stop_all.ensures.course plans (map plan_of (ordered c)) came)
+
 pub returns-clause-course : goal.returns-clause-course
 returns-clause-course c =
-    let w = c.drain_all.new.self.worker in
-    let ends : EndsCourse c.drain_all.new.self.records c.drain_all.new.self.net.state =
-    ends_course w c.drain_all.new.self.net.state c.drain_all.new.self.records c.in_ok-over.ensures.run.working c.in_ok-drain_all.ensures.empty c.in_ok-drain_all.ensures.closed
-    (c.in_ok-drain_all.ensures.course (c.in_ok-stop_all.ensures.course (c.in_ok-run_moments.ensures.course c.in_ok-running.ensures.course))) in
+    let end = c.drain_all.new.self in
+    let ends : EndsCourse end.records end.net.state =
+    ends_course c.args.script.plans (map plan_of (ordered c)) end.worker end.net.state end.records c.in_ok-over.ensures.run.working c.in_ok-drain_all.ensures.empty c.in_ok-drain_all.ensures.closed (followed c) in
     let over = c.in_ok-over.ensures in
-    let net : c.in_ok-over.over.net.state ≡ c.drain_all.new.self.net.state = ap (λ (n : MemoryNetNow). n.state) over.net.0 in
+    let net : c.in_ok-over.over.net.state ≡ end.net.state = ap (λ (n : MemoryNetNow). n.state) over.net.0 in
     subst (λ (l : List Told). EndsCourse l c.in_ok-over.over.net.state) (sym (c.from_vec.ensures ∙ over.records))
-    (subst (λ (n : NetState). EndsCourse c.drain_all.new.self.records n) (sym net) ends)
+    (subst (λ (n : NetState). EndsCourse end.records n) (sym net) ends)
+
+pub returns-clause-plans : goal.returns-clause-plans
+returns-clause-plans c =
+    let end = c.drain_all.new.self in
+    let clients = c.args.script.clients in
+    let plans = c.args.script.plans in
+    let ends : EndsPlanned clients plans end.records end.net.state =
+    ends_planned clients (ordered c) plans end.worker end.net.state end.records c.in_ok-over.ensures.run.working c.in_ok-drain_all.ensures.empty c.in_ok-drain_all.ensures.closed c.in_ok-clients_due.ensures.in_order (followed c) in
+    let over = c.in_ok-over.ensures in
+    let net : c.in_ok-over.over.net.state ≡ end.net.state = ap (λ (n : MemoryNetNow). n.state) over.net.0 in
+    subst (λ (l : List Told). EndsPlanned clients plans l c.in_ok-over.over.net.state) (sym (c.from_vec.ensures ∙ over.records))
+    (subst (λ (n : NetState). EndsPlanned clients plans end.records n) (sym net) ends)

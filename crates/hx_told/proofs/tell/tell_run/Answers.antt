@@ -9,6 +9,7 @@ use Rattle.hx_script.specs.TrueTranscript.{AreTrueServers}
 use Rattle.hx_told.specs.declared.servers.Named.{Named}
 use Rattle.hx_told.specs.Servers.{IsWhole, all_sums, named_servers, parts_of}
 use Rattle.hx_told.specs.Telling.{TellsLinks}
+use Rattle.hx_told.proofs.Follows.{ok_follows}
 use Rattle.hx_told.proofs.Overs.{true_servers}
 use Rattle.hx_told.proofs.Truth.{ok_true, ok_ended}
 use Rattle.hx_told.proofs.tell.tell_run.Goals as goal
@@ -39,3 +40,12 @@ returns-clause-ended c =
     let links : TellsLinks c.args.ran.records c.args.ran.net clients conns =
     subst (λ (rs : List Told). TellsLinks rs c.args.ran.net clients conns) c.as_slice-3.ensures c.in_ok-links.ensures.links in
     ok_ended c.args.ran.net c.args.ran.records clients conns links c.in_ok-links.ensures.conns c.put_together.result c.put_together.ensures.conns
+
+pub returns-clause-plans : goal.returns-clause-plans
+returns-clause-plans c = λ lines plans e.
+    let clients : List ClientBytes = c.in_ok-links.links.clients.items in
+    let conns : List ConnBytes = c.in_ok-links.links.conns.items in
+    let links : TellsLinks c.args.ran.records c.args.ran.net clients conns =
+    subst (λ (rs : List Told). TellsLinks rs c.args.ran.net clients conns) c.as_slice-3.ensures c.in_ok-links.ensures.links in
+    ok_follows lines plans c.args.ran.net c.args.ran.records clients conns c.put_together.result links c.in_ok-links.ensures.clients c.in_ok-links.ensures.conns
+    c.put_together.ensures.clients c.put_together.ensures.conns e

@@ -4,9 +4,8 @@ use Rattle.hx_link.specs.MemoryNets.{MemoryNetNow}
 use Rattle.hx_record.specs.declared.served.Told.{Told}
 use Rattle.hx_worker.specs.Workers.{WorkerNow, HasSeats}
 use Rattle.hx_run.specs.Runs.{IsWorking}
-use Rattle.hx_course.specs.Courses.{KeepsCourse}
-use Rattle.hx_course.specs.Graves.{Grave}
 use Rattle.hx_run.proofs.Beginning.{begin_seats, begin_working}
+use Rattle.hx_run.proofs.Coursing.{Has}
 use Rattle.hx_run.proofs.Ending.{begins_course}
 use Rattle.hx_run.proofs.running.Running.new.Goals as goal
 
@@ -22,6 +21,8 @@ invariant_of-result c = record {
 
 pub returns-clause-course : goal.returns-clause-course
 returns-clause-course c =
-    subst (λ (records : List Told). (graves : List Grave) × KeepsCourse c.in_ok-worker.worker c.in_ok-net.net.state records graves) (sym c.new-3.ensures.items)
-    (subst (λ (w : WorkerNow). (graves : List Grave) × KeepsCourse w c.in_ok-net.net.state [] graves) (sym c.in_ok-worker.ensures.begins)
-    (begins_course (meaning c.args.config.now) _ _ c.args.plans.items c.args.room c.in_ok-net.net c.args.config.now.within.numbered c.in_ok-seats.ensures.begin c.in_ok-net.ensures.begins))
+    let plans = c.args.plans.items in
+    let state = c.in_ok-net.net.state in
+    subst (λ (records : List Told). Has plans [] c.in_ok-worker.worker state records) (sym c.new-3.ensures.items)
+    (subst (λ (w : WorkerNow). Has plans [] w state []) (sym c.in_ok-worker.ensures.begins)
+    (begins_course (meaning c.args.config.now) _ _ plans c.args.room c.in_ok-net.net c.args.config.now.within.numbered c.in_ok-seats.ensures.begin c.in_ok-net.ensures.begins))

@@ -1,0 +1,6 @@
+use Rattle.std.proofs.Common.{sym, subst}
+use Rattle.hx_run.specs.Courses.{HasCourse}
+use Rattle.hx_run.proofs.running.Running.round.Goals as goal
+
+pub returns-clause-course : goal.returns-clause-course
+returns-clause-course c = λ plans came h. subst (HasCourse plans came) (sym c.self-2.view_is) (c.loop-n.invariant.1 plans came h)
