@@ -27,7 +27,7 @@ use Rattle.hx_places.specs.Known.{Known, Unknown, known_by, known_after, known_f
 use Rattle.hx_places.specs.Asks.{Admission, Shut, Admitted, admission_after, admission_from, admission_of}
 use Rattle.hx_places.specs.Views.{Adds}
 use Rattle.hx_places.specs.Seats.{PlaceView, Notes, turn}
-use Rattle.hx_places_load.specs.Resting.{IsOurs, IsAtRest, Goes, Knows, HasFace}
+use Rattle.hx_places_load.specs.Resting.{IsOurs, IsAtRest, IsFresh, Goes, Knows, HasFace}
 
 pub turn_from-append : (s : Turn) (xs ys : List Note) → turn_from s (xs ++ ys) ≡ turn_from (turn_from s xs) ys
 turn_from-append s [] ys = refl
@@ -151,3 +151,8 @@ pub all_rest : {V : Type 0} (b : Board V) (seats : List PlaceView) → AreFirst 
     → All IsAtRest seats
 all_rest b seats first ours = all_of IsAtRest seats (λ k s is. subst IsAtRest (sym (first.each k s is))
     (record { turn_is = refl; idle = refl; ours = ours }))
+
+pub all_fresh : {V : Type 0} (b : Board V) (seats : List PlaceView) → AreFirst b seats → IsOurs b.terms
+    → All IsFresh seats
+all_fresh b seats first ours = all_of IsFresh seats (λ k s is. subst IsFresh (sym (first.each k s is))
+    (record { rest = record { turn_is = refl; idle = refl; ours = ours }; unused = refl }))

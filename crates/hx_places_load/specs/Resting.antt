@@ -1,5 +1,5 @@
 -- A worker's seat between its steps.
-use Rattle.std.specs.Prelude.{◌≡◌, ℕ, ◌<◌, Option}
+use Rattle.std.specs.Prelude.{◌≡◌, ℕ, ◌<◌, [], Option}
 use Rattle.hx_base.specs.declared.numbers.SessionNo.{SessionNo}
 use Rattle.hx_base.specs.declared.numbers.ServerNo.{ServerNo}
 use Rattle.hx_base.specs.declared.numbers.PlaceNo.{PlaceNo}
@@ -9,7 +9,7 @@ use Rattle.hx_pool.specs.declared.board.BoardTerms.{BoardTerms}
 use Rattle.hx_pool.specs.Held.{Has, hold_of}
 use Rattle.hx_pool.specs.Table.{spot_no}
 use Rattle.hx_places.specs.declared.view.Hand.TheVariants.{Idle, Claims}
-use Rattle.hx_places.specs.Turns.{AtEase, FoundDrain, Settled, WentUp, IsBelow, first_turn}
+use Rattle.hx_places.specs.Turns.{AtEase, HasParked, FoundDrain, Settled, WentUp, IsBelow, first_turn}
 use Rattle.hx_places.specs.Known.{known_of}
 use Rattle.hx_places.specs.Asks.{Admitted, IsAdmitted, admission_of}
 use Rattle.hx_places.specs.Seats.{PlaceView, turn, IsOfBoard, IsOwn}
@@ -24,6 +24,11 @@ pub record IsAtRest (s : PlaceView) : Type 0 where
   pub turn_is : turn s ≡ first_turn
   pub idle : s.view.hand ≡ Idle
   pub ours : IsOurs s.view.terms
+
+-- the same, and it made no entry
+pub record IsFresh (s : PlaceView) : Type 0 where
+  pub rest : IsAtRest s
+  pub unused : s.view.mine ≡ []
 
 -- the seat read that the server is ready, and then counted up below the greatest number
 pub record IsAdmittedTo (s : PlaceView) : Type 0 where
@@ -42,6 +47,13 @@ pub record IsFilling (s : PlaceView) (place : PlaceNo) : Type 0 where
   pub admitted : IsAdmitted s
   pub claims : s.view.hand ≡ Claims (spot_no place)
   pub own : IsOwn s place
+  pub board : IsOfBoard s place
+  pub ours : IsOurs s.view.terms
+
+-- it parked there with this face, and has to read the drain state
+pub record HasToRead (s : PlaceView) (place : PlaceNo) (f : Face) : Type 0 where
+  pub turn_is : turn s ≡ record { due = Settled; call = HasParked place f }
+  pub idle : s.view.hand ≡ Idle
   pub board : IsOfBoard s place
   pub ours : IsOurs s.view.terms
 

@@ -1,12 +1,14 @@
 //! What a worker does at its seat, a few steps at a time.
 ghost use Rattle.std.specs.Prelude.{◌≡◌, ◌+◌, ◌-◌, ◌<◌, ◌≤◌, true, false, IfSome, IfOk, MatchOption};
 ghost use Rattle.hx_base.specs.PlaceWords.{IsFace};
+ghost use Rattle.hx_base.specs.declared.numbers.PlaceNo.{PlaceNo};
+ghost use Rattle.hx_base.specs.declared.numbers.Face.{Face};
 ghost use Rattle.hx_pool.specs.declared.entries.Found.TheVariants.{Empty};
 ghost use Rattle.hx_pool.specs.Held.{Has};
 ghost use Rattle.hx_places.specs.Known.{WasVacant};
 ghost use Rattle.hx_places.specs.Seats.{IsOfBoard, IsOwn};
 ghost use Rattle.hx_places.specs.Turns.{IsBelow};
-ghost use Rattle.hx_places_load.specs.Resting.{IsAtRest, IsAdmittedTo, IsFilling, HasToTry};
+ghost use Rattle.hx_places_load.specs.Resting.{IsAtRest, IsAdmittedTo, IsFilling, HasToRead, HasToTry};
 ghost use Rattle.hx_places_load.specs.Resting.{Goes, Knows, HasFace};
 
 use crate::card::Card;
@@ -102,7 +104,7 @@ fn is_admitted(seat: &mut PlaceSeat<'_, Card>) -> bool
 }
 
 /// Claims an own place that is vacant, where the server takes one more.
-fn claim_at(seat: &mut PlaceSeat<'_, Card>, place: PlaceNo) -> Option<Claim>
+pub(crate) fn claim_at(seat: &mut PlaceSeat<'_, Card>, place: PlaceNo) -> Option<Claim>
     requires rest { IsAtRest seat.old }
     requires own { IsOwn seat.old place }
     requires board { IsOfBoard seat.old place }
@@ -118,20 +120,28 @@ fn claim_at(seat: &mut PlaceSeat<'_, Card>, place: PlaceNo) -> Option<Claim>
     Some(seat.claim(place))
 }
 
-/// Lets the connection rest at the claimed place with this face. It answers whether the server drains by now.
-fn let_rest(seat: &mut PlaceSeat<'_, Card>, claim: Claim, face: Face) -> bool
+/// Lets the connection rest at the claimed place with this face. The seat has to read the drain state next.
+pub(crate) fn publish_as(seat: &mut PlaceSeat<'_, Card>, claim: Claim, face: Face)
     requires filling { IsFilling seat.old claim.place }
     requires has { Has seat.old.view.mine (record { 0 = 1 }) face.id.0 (face.uses - 1) }
     requires uses { 1 ≤ face.uses }
-    ensures ready { result ≡ false → IsAtRest seat.new }
-    ensures drains { result ≡ true → HasToTry seat.new claim.place face }
+    ensures { HasToRead seat.new claim.place face }
 {
     seat.publish(claim, SESSION, Card { face });
+}
+
+/// Whether the server drains by now, after a park.
+pub(crate) fn drains_now(seat: &mut PlaceSeat<'_, Card>) -> bool
+    requires parked { (place : PlaceNo) × (face : Face) × HasToRead seat.old place face }
+    ensures ready { result ≡ false → IsAtRest seat.new }
+    ensures drains { (place : PlaceNo) (face : Face) → HasToRead seat.old place face
+        → result ≡ true → HasToTry seat.new place face }
+{
     seat.gate()
 }
 
 /// Takes back what was parked, where no other seat took it.
-fn take_back(seat: &mut PlaceSeat<'_, Card>, place: PlaceNo, face: Face) -> Option<Face>
+pub(crate) fn take_back(seat: &mut PlaceSeat<'_, Card>, place: PlaceNo, face: Face) -> Option<Face>
     requires due { HasToTry seat.old place face }
     requires face { IsFace face }
     ensures rest { IsAtRest seat.new }
@@ -160,7 +170,8 @@ fn publish_at(seat: &mut PlaceSeat<'_, Card>, claim: Claim, face: Face) -> Optio
         uses: face.uses + 1,
     };
     let place = claim.place;
-    if let_rest(seat, claim, used) {
+    publish_as(seat, claim, used);
+    if drains_now(seat) {
         return take_back(seat, place, used);
     }
     None

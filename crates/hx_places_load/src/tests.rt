@@ -1,16 +1,21 @@
 //! What no clause says: that the calls succeed, the words of places, and two seats whose calls fall between one another.
-ghost use Rattle.std.specs.Prelude.{◌≡◌, All};
-ghost use Rattle.hx_places_load.specs.Resting.{IsAtRest};
+ghost use Rattle.std.specs.Prelude.{◌≡◌, All, IfSome};
+ghost use Rattle.hx_base.specs.PlaceWords.{IsFace};
+ghost use Rattle.hx_places_load.specs.Resting.{IsAtRest, IsFilling, HasToRead, HasFace};
 
 use crate::card::Card;
+use crate::history::History;
 use crate::load::run;
-use crate::worker::{Parked, Worker, seats_of};
+use crate::steps::{claim_at, drains_now, open_one, publish_as, take_back};
+use crate::whole::run_whole;
+use crate::worker::{Parked, Worker, fresh_seats_of, seats_of};
 use hx_base::{
-    ConnId, Face, Millis, Mode, PlaceNo, PlaceState, PoolRules, ServerNo, ThreadNo, pack_place,
-    unpack_place,
+    ConnId, Face, Millis, Mode, PlaceNo, PlaceState, PoolRules, ServerNo, SessionNo, ThreadNo,
+    pack_place, unpack_place,
 };
-use hx_places::{Board, PlaceSeat};
-use hx_pool::Found;
+use hx_places::{Board, Claim, PlaceSeat};
+use hx_pool::{Entry, Found, Seat};
+use hx_purge::SlotSeat;
 use std::test::Fail;
 
 #[test]
@@ -141,9 +146,196 @@ fn two_seats_whose_calls_fall_between_one_another(rt: HostRuntime) -> Result<(),
     Ok(())
 }
 
+/// What came of a park that met a drain.
+#[derive(Clone, Copy, PartialEq, Eq, Debug)]
+struct Met {
+    /// What the drain took, first behind the park and then at the end.
+    drained: (Option<Face>, Option<Face>),
+    /// What the parker's gate showed.
+    draining: bool,
+    /// What its take back got.
+    back: Option<Face>,
+}
+
+fn face_of(card: Option<Card>) -> Option<Face> {
+    match card {
+        Some(card) => Some(card.face),
+        None => None,
+    }
+}
+
+/// Claims the first place of its row.
+fn claim_first(parker: &mut PlaceSeat<'_, Card>, opened: Face) -> Option<Claim>
+    requires rest { IsAtRest parker.old }
+    requires has { HasFace parker.old opened }
+    ensures filling { IfSome result (λ c. IsFilling parker.new c.place) }
+    ensures has { HasFace parker.new opened }
+{
+    let at = PlaceNo {
+        row: parker.thread().0,
+        place: 0,
+    };
+    claim_at(parker, at)
+}
+
+/// What the gate behind a park shows, and what the take back gets where it shows draining.
+fn read_and_take(
+    parker: &mut PlaceSeat<'_, Card>,
+    place: PlaceNo,
+    face: Face,
+) -> (bool, Option<Face>)
+    requires parked { HasToRead parker.old place face }
+    requires face { IsFace face }
+{
+    if drains_now(parker) {
+        return (true, take_back(parker, place, face));
+    }
+    (false, None)
+}
+
+/// A park at the first place of its row, step by step. Before it publishes the other sets the server draining, and behind that
+/// it drains.
+fn park_into_drain(
+    parker: &mut PlaceSeat<'_, Card>,
+    drainer: &mut SlotSeat<'_, Card>,
+) -> Option<Met>
+    requires rest { IsAtRest parker.old }
+{
+    let opened = open_one(parker)?;
+    if opened.uses == u16::MAX {
+        return None;
+    }
+    let used = Face {
+        id: opened.id,
+        uses: opened.uses + 1,
+    };
+    let claim = claim_first(parker, opened)?;
+    let place = claim.place;
+    drainer.set_drain();
+    publish_as(parker, claim, used);
+    let first = face_of(drainer.drain_next());
+    let (draining, back) = read_and_take(parker, place, used);
+    let last = face_of(drainer.drain_next());
+    Some(Met {
+        drained: (first, last),
+        draining,
+        back,
+    })
+}
+
+#[test]
+fn a_drain_takes_what_a_park_under_way_published(rt: HostRuntime) -> Result<(), Fail> {
+    let mut board = Board::<Card>::new(rt.alloc(), ServerNo(0), RULES, 2, Millis(0))?;
+    let mut seats = fresh_seats_of(&mut board, rt.alloc())?;
+    let (Some(last), Some(mut parker)) = (seats.pop(), seats.pop()) else {
+        return Err(Fail::new("no seat"));
+    };
+    let mut drainer = SlotSeat::new(rt.alloc(), last)?;
+    let met = Met {
+        drained: (Some(face(1, 1)), None),
+        draining: true,
+        back: None,
+    };
+    assert_eq!(rt; park_into_drain(&mut parker, &mut drainer), Some(met));
+    assert!(rt; drainer.is_drained());
+    assert!(rt; drainer.drain_next().is_none());
+    Ok(())
+}
+
 #[test]
 fn sixteen_threads_meet_each_rest_once(rt: HostRuntime) -> Result<(), Fail> {
     let load = run(&rt, rt.alloc(), 10)?;
     assert!(rt; load.is_whole());
+    Ok(())
+}
+
+/// Whether the marks of two threads stand in one history.
+fn are_one(rt: &HostRuntime, first: &[Entry], second: &[Entry]) -> Result<bool, Fail> {
+    let mut history = History::new(rt.alloc())?;
+    history.add(rt.alloc(), first)?;
+    history.add(rt.alloc(), second)?;
+    Ok(history.is_one()?)
+}
+
+fn open(t: u8, id: u64) -> Entry {
+    Entry::Open {
+        t: ThreadNo(t),
+        n: SessionNo(1),
+        id: ConnId(id),
+    }
+}
+
+fn park(t: u8, id: u64, at: PlaceNo, uses: u16) -> Entry {
+    Entry::Park {
+        t: ThreadNo(t),
+        n: SessionNo(1),
+        id: ConnId(id),
+        place: at,
+        uses,
+    }
+}
+
+fn take(t: u8, id: u64, at: PlaceNo, uses: u16) -> Entry {
+    Entry::Take {
+        t: ThreadNo(t),
+        n: SessionNo(1),
+        first: true,
+        place: at,
+        id: ConnId(id),
+        uses,
+    }
+}
+
+fn close(t: u8, id: u64) -> Entry {
+    Entry::Close {
+        t: ThreadNo(t),
+        n: SessionNo(1),
+        id: ConnId(id),
+    }
+}
+
+#[test]
+fn marks_that_stand_in_no_history_are_found(rt: HostRuntime) -> Result<(), Fail> {
+    let (a, b) = (place(0, 0), place(1, 0));
+    let one = [open(0, 1), park(0, 1, a, 1)];
+    // What the first thread parked goes to the second, and back.
+    let goes = [open(1, 2), take(1, 1, a, 1), park(1, 1, b, 2), close(1, 2)];
+    let back = [open(0, 1), park(0, 1, a, 1), take(0, 1, b, 2), close(0, 1)];
+    assert!(rt; are_one(&rt, &back, &goes)?);
+    // It is taken twice, or after other uses; the second closes what it hasn't; it parks in the row of the first, or
+    // where something rests; a number is given twice; each waits for the other.
+    assert!(rt;
+        !are_one(
+            &rt,
+            &[open(0, 1), park(0, 1, a, 1), take(0, 1, a, 1)],
+            &[take(1, 1, a, 1)]
+        )?
+    );
+    assert!(rt; !are_one(&rt, &one, &[take(1, 1, a, 2)])?);
+    assert!(rt; !are_one(&rt, &one, &[close(1, 1)])?);
+    assert!(rt; !are_one(&rt, &one, &[open(1, 2), park(1, 2, a, 1)])?);
+    assert!(rt;
+        !are_one(
+            &rt,
+            &[open(0, 1), open(0, 2), park(0, 1, a, 1), park(0, 2, a, 1)],
+            &[]
+        )?
+    );
+    assert!(rt; !are_one(&rt, &one, &[open(1, 1)])?);
+    assert!(rt;
+        !are_one(
+            &rt,
+            &[open(0, 1), take(0, 2, b, 1), park(0, 1, a, 1)],
+            &[open(1, 2), take(1, 1, a, 1), park(1, 2, b, 1)]
+        )?
+    );
+    Ok(())
+}
+
+#[test]
+fn whole_seats_on_sixteen_threads_make_one_history(rt: HostRuntime) -> Result<(), Fail> {
+    let whole = run_whole(&rt, rt.alloc(), 32)?;
+    assert!(rt; whole.is_settled());
+    assert!(rt; whole.opened > 16);
     Ok(())
 }

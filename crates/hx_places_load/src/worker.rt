@@ -3,7 +3,7 @@ ghost use Rattle.std.specs.Prelude.{◌≡◌, true, All, IfOk};
 ghost use Rattle.std.specs.Option.{ForSome};
 ghost use Rattle.hx_base.specs.PlaceWords.{IsFace};
 ghost use Rattle.hx_places.specs.Seats.{IsOfBoard};
-ghost use Rattle.hx_places_load.specs.Resting.{IsOurs, IsAtRest, HasFace};
+ghost use Rattle.hx_places_load.specs.Resting.{IsOurs, IsAtRest, IsFresh, HasFace};
 
 use crate::card::Card;
 use crate::steps::{
@@ -160,6 +160,19 @@ pub(crate) fn seats_of(
     requires first { board.old.given ≡ 0 }
     requires ours { IsOurs board.old.terms }
     ensures { IfOk result (λ v. All IsAtRest v.items) }
+{
+    let seats = board.seats(alloc)?;
+    Ok(seats)
+}
+
+/// The seats of all threads of a board, which have made no entry.
+pub(crate) fn fresh_seats_of(
+    board: &mut Board<Card>,
+    alloc: Global,
+) -> Result<Vec<PlaceSeat<'_, Card>>, NoMemory>
+    requires first { board.old.given ≡ 0 }
+    requires ours { IsOurs board.old.terms }
+    ensures { IfOk result (λ v. All IsFresh v.items) }
 {
     let seats = board.seats(alloc)?;
     Ok(seats)
