@@ -6,7 +6,6 @@ use Rattle.hx_base.specs.declared.numbers.ServerNo.{ServerNo}
 use Rattle.hx_base.specs.declared.what.LinkTold.{LinkTold}
 use Rattle.hx_base.specs.Counts.{Rose}
 use Rattle.hx_base.specs.declared.numbers.Millis.{Millis}
-use Rattle.hx_base.specs.declared.what.What.{What}
 use Rattle.hx_conn.specs.Conns.{BusyNow, IsBusy, RestedNow}
 use Rattle.hx_conn.specs.WhatTold.{what_of_link}
 use Rattle.hx_base.specs.declared.numbers.SessionNo.{SessionNo}

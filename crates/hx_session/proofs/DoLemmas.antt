@@ -1,5 +1,5 @@
 -- What an exchange does next.
-use Rattle.std.proofs.Common.{◌≡◌, ◌≤◌, [], length, refl, inl, inr, ⊎_elim}
+use Rattle.std.proofs.Common.{◌≡◌, [], refl, inl, inr, ⊎_elim}
 use Rattle.hx_frame.specs.declared.progress.MeterState.TheVariants.{Going}
 use Rattle.hx_session.specs.declared.answers.Do.{Do}
 use Rattle.hx_session.specs.declared.answers.Do.TheVariants.{BadAsk, BadAnswer, PassAsk, ClientEnded, LookForHead, PassAnswer, Finish, ServerEnded, Nothing}
@@ -8,7 +8,7 @@ use Rattle.hx_session.specs.declared.exchange.BodyWay.{BodyWay}
 use Rattle.hx_session.specs.Desks.{DeskNow}
 use Rattle.hx_session.specs.Exchanged.{ExchangeNow}
 use Rattle.hx_session.specs.Finishing.{MayDo, DoesAtEnd, DoesAsk, DoesAnswer}
-use Rattle.hx_session.specs.Waiting.{AskIdle, AnswerIdle}
+use Rattle.hx_session.specs.Waiting.{AskIdle}
 
 pub at_end : (d : DeskNow) (e : ExchangeNow) (b : BodyWay) (x : Do) → e.answer ≡ Body b → b.state ≡ Going → d.down.bytes ≡ [] → DoesAtEnd e b d.to x → DoesAnswer d e x
 at_end d e b BadAsk is going none k = absurd k

@@ -1,5 +1,5 @@
 -- What ends an exchange early, seen in its bytes.
-use Rattle.std.proofs.Common.{◌≡◌, ◌⊎◌, ◌≤◌, ◌<◌, ◌+◌, ℕ, Bool, true, false, List, [], ◌∷◌, ◌++◌, length, take, drop, Ok, refl, sym, ap, subst, ◌∙◌, inl, inr, append_assoc, arith, length-append, Some, None, ⊎_elim}
+use Rattle.std.proofs.Common.{◌≡◌, ◌<◌, ◌+◌, ℕ, Bool, true, false, List, [], ◌∷◌, ◌++◌, length, take, drop, Ok, refl, sym, ap, subst, ◌∙◌, inl, inr, arith, length-append}
 use Rattle.std.specs.Prelude.{IfSome}
 use Rattle.std.proofs.lemmas.List.{append-nil}
 use Rattle.std.proofs.Math.Seq.{take-append-add, take-append_seam}
@@ -11,8 +11,7 @@ use Rattle.hx_frame.proofs.EndLemmas.{interims_more, one_final_body}
 use Rattle.hx_message.specs.declared.BodyKind.{BodyKind}
 use Rattle.hx_message.specs.declared.BodyKind.TheVariants.{Nothing, Length, Chunked, ToEnd}
 use Rattle.hx_message.specs.declared.MethodKind.{MethodKind}
-use Rattle.hx_message.specs.Body.{Framed, IsBody, request_kind, answer_kind}
-use Rattle.hx_message.specs.Message.{RunsToEnd}
+use Rattle.hx_message.specs.Body.{Framed, answer_kind}
 use Rattle.hx_message.specs.Partial.{HasWholeAnswer, HasWholeRequest}
 use Rattle.hx_session_parts.specs.Answers.{AnswerLooks, BreaksAnswer}
 use Rattle.hx_session_parts.specs.declared.answers.AnswerLook.TheVariants as answer
@@ -21,7 +20,7 @@ use Rattle.hx_session_parts.proofs.OnWayLemmas.{begins_interims}
 use Rattle.hx_session.specs.declared.exchange.AnswerWay.{AnswerWay}
 use Rattle.hx_session.specs.declared.exchange.AnswerWay.TheVariants.{Heads, Body}
 use Rattle.hx_session.specs.declared.exchange.BodyWay.{BodyWay}
-use Rattle.hx_session.specs.Answering.{CarriesAnswer, IsBodyCarried, BreaksCarried}
+use Rattle.hx_session.specs.Answering.{CarriesAnswer, BreaksCarried}
 use Rattle.hx_session.specs.Bad.{Breaks, HasBadChunks, IsBrokenAnswer}
 use Rattle.hx_session.specs.Breaking.{BreaksHere}
 use Rattle.hx_session.specs.Carried.{IsCarried}

@@ -1,5 +1,5 @@
 -- The first step of a session, and deadlines.
-use Rattle.std.proofs.Common.{◌≡◌, ◌⊎◌, ◌≤◌, ◌<◌, ◌+◌, ◌*◌, ◌-◌, ℕ, Bool, true, false, List, [], ◌++◌, length, refl, sym, ap, subst, ◌∙◌, inl, inr, arith, Option, Some, None, ⊎_elim}
+use Rattle.std.proofs.Common.{◌≡◌, ◌≤◌, ◌<◌, ◌+◌, ◌*◌, ◌-◌, ℕ, Bool, true, false, List, [], ◌++◌, length, refl, sym, ap, subst, ◌∙◌, inl, inr, arith, Option, Some, None, ⊎_elim}
 use Rattle.std.specs.Prelude.{IfSome}
 use Rattle.hx_config.specs.declared.parts.Back.{Back}
 use Rattle.hx_config.specs.declared.parts.Front.{Front}
@@ -7,24 +7,23 @@ use Rattle.hx_session.specs.declared.deadline.Late.{Late}
 use Rattle.hx_session.specs.declared.deadline.Late.TheVariants.{Client, Connect, Server as OfServer}
 use Rattle.hx_session.specs.Desks.{DeskNow}
 use Rattle.hx_session.specs.Exchanged.{ExchangeNow}
-use Rattle.hx_session.specs.First.{FindsLate, ServerComes, IsFresh, FreshOn, WasRead, ReadOn, IsEnding}
-use Rattle.hx_session.specs.Stages.{StageNow, AnsweringNow, Reading, Choosing, Exchanging, Answering, Left, stage_now}
+use Rattle.hx_session.specs.First.{FindsLate, ServerComes, IsFresh, WasRead, ReadOn, IsEnding}
+use Rattle.hx_session.specs.Stages.{StageNow, AnsweringNow, Reading, Choosing, Exchanging, Answering, Left}
 use Rattle.hx_base.specs.Counts.{Rose}
-use Rattle.hx_base.specs.declared.numbers.ServerNo.{ServerNo}
 use Rattle.hx_config.specs.declared.parts.Server.{Server}
 use Rattle.hx_config.specs.Meaning.{Meaning}
 use Rattle.hx_conn.specs.Conns.{RestedNow}
 use Rattle.hx_connecting.specs.Choosing.{back_at, back_no}
-use Rattle.hx_connecting.specs.Sessions.{SessionNow, admitted}
+use Rattle.hx_connecting.specs.Sessions.{SessionNow}
 use Rattle.hx_connecting.proofs.CauseLemmas.{rose_on}
 use Rattle.hx_link.specs.Told.{LinkState}
 use Rattle.hx_pool.specs.SeatView.{History}
 use Rattle.hx_session.specs.Beginning.{ChoosesIn}
-use Rattle.hx_session.specs.Causes.{HasCome, CanBeLate, Limits}
+use Rattle.hx_session.specs.Causes.{HasCome}
 use Rattle.hx_session.specs.Doings.{IsSameClient}
 use Rattle.hx_session.specs.Fits.{limits_of, limits_with}
 use Rattle.hx_session.specs.Moves.{GivesClient, ReadsClient}
-use Rattle.hx_session.specs.Seen.{one_if, session_seen, stage_no}
+use Rattle.hx_session.specs.Seen.{one_if, session_seen}
 use Rattle.hx_session.specs.Standing.{IsSound}
 use Rattle.hx_session.specs.Steps.{IsNew}
 use Rattle.hx_session.specs.declared.moves.Move.{Move}

@@ -15,7 +15,6 @@ use Rattle.hx_pool.specs.History.{plain}
 use Rattle.hx_pool.specs.Opening.{ReadsGate}
 use Rattle.hx_pool.specs.SeatView.{About, History}
 use Rattle.hx_pool.proofs.HeldCalls.{held_apart}
-use Rattle.hx_session_parts.specs.Asks.{IsAsked}
 use Rattle.hx_connecting.specs.Around.{RestsAtNever, HasAround, abouts, resting}
 use Rattle.hx_connecting.specs.Choice.{AskedAll, Chooses, next_turn}
 use Rattle.hx_connecting.specs.Choosing.{servers_of}
@@ -25,7 +24,7 @@ use Rattle.hx_connecting.specs.Sessions as seen
 use Rattle.hx_connecting.proofs.AroundLemmas.{holds_here, holds_set, numbered_set, abouts_set}
 use Rattle.hx_session.specs.Beginning.{ChoosesServer, ChoosesIn}
 use Rattle.hx_session.specs.Desks.{DeskNow}
-use Rattle.hx_session.specs.Stages.{StageNow, Reading, Choosing, Exchanging, Answering, Left}
+use Rattle.hx_session.specs.Stages.{StageNow, ChoosingNow, IsAhead, Reading, Choosing, Exchanging, Answering, Left}
 use Rattle.hx_session.specs.Standing.{IsPlaced, IsRoutedTo, GoesToHeld}
 use Rattle.hx_session.proofs.EntryLemmas.{conn_own, below}
 
@@ -120,6 +119,9 @@ goes_again servers turn turn' olds news None v w k g = tt
 goes_again servers turn turn' olds news (Some r) (Some v) w k g = k.0 ∙ g
 goes_again servers turn turn' olds news (Some r) None w k g = cc
 
+ahead_again : (bytes : List ℕ) (c c' : ChoosingNow) → c'.length ≡ c.length → c'.kind ≡ c.kind → IsAhead bytes c.length c.kind → IsAhead bytes c'.length c'.kind
+ahead_again bytes c c' length kind a = record { ask = a.ask; is = a.is; length_is = length ∙ a.length_is; kind_is = kind ∙ a.kind_is }
+
 -- a session whose server was chosen is placed as before
 pub in_placed : (d : DeskNow) (servers : List Server) (turn turn' : ℕ) (olds news : List History) (s s' : StageNow) → ChoosesIn servers turn turn' olds news s s' → IsPlaced d s olds → IsPlaced d s' news
 in_placed d servers turn turn' olds news (Choosing c) s' k p =
@@ -129,7 +131,7 @@ in_placed d servers turn turn' olds news (Choosing c) s' k p =
     let size = about_length olds news (server_abouts servers turn turn' olds news c.server c'.server f.server) in
     subst (λ (x : StageNow). IsPlaced d x news) (sym k.1) (record {
       set = record {
-        stands = (p.set.stands.0, subst (IsAsked d.from.bytes) (sym f.asked) p.set.stands.1);
+        stands = (p.set.stands.0, ahead_again d.from.bytes c c' f.length f.kind p.set.stands.1);
         numbered = p.set.numbered;
         around = subst (λ (h : Option RestedNow). HasAround d.worker d.session (resting h) news) (sym f.held) around;
         own = subst (λ (h : Option RestedNow). HasHeld news d.session h) (sym f.held) (held_again d.worker d.session c.held olds news size p.set.own around);

@@ -1,12 +1,12 @@
 -- A session that didn't move stands.
-use Rattle.std.proofs.Common.{◌≡◌, ◌⊎◌, ℕ, ◌<◌, ◌≤◌, ◌+◌, Bool, true, false, List, [], ◌∷◌, ◌++◌, length, take, drop, refl, sym, ap, subst, ◌∙◌, inl, inr, arith, Option, Some, None, ⊎_elim, length-append}
+use Rattle.std.proofs.Common.{◌≡◌, ◌⊎◌, ℕ, ◌<◌, ◌≤◌, ◌+◌, Bool, true, false, List, [], ◌∷◌, ◌++◌, length, take, drop, refl, sym, ap, subst, ◌∙◌, inl, inr, arith, Option, Some, None, ⊎_elim}
 use Rattle.std.specs.Prelude.{IfSome}
 use Rattle.std.specs.List.{flat_map}
 use Rattle.std.proofs.lemmas.List.{append-nil, take_all, take-append-drop}
 use Rattle.std.proofs.Math.Seq.{take-append_seam}
 use Rattle.httparse.specs.Grammar.{ResponseHead, ReadsResponse, HasNoResponse}
 use Rattle.httparse.proofs.GrammarLemmas.{response_unique, ReadsResponse-append}
-use Rattle.hx_conn.specs.Conns.{BusyNow, RestedNow}
+use Rattle.hx_conn.specs.Conns.{RestedNow}
 use Rattle.hx_frame.specs.declared.progress.MeterState.{MeterState}
 use Rattle.hx_frame.specs.declared.progress.MeterState.TheVariants.{Going, Done}
 use Rattle.hx_frame.specs.Meters.{MeterFits, IsProperPart}
@@ -14,17 +14,14 @@ use Rattle.hx_frame.proofs.EndLemmas.{one_request_end, interims_more}
 use Rattle.hx_link.specs.Told.{LinkState}
 use Rattle.hx_message.specs.declared.MethodKind.{MethodKind}
 use Rattle.hx_message.specs.Body.{IsBody}
-use Rattle.hx_message.specs.Forwarded.{BeginsInterims, IsFinal, ForwardsRequest, ForwardsAnswer, forwarded_answer}
-use Rattle.hx_message.specs.Partial.{HasWholeRequest, HasWholeAnswer, EndsRequest}
+use Rattle.hx_message.specs.Forwarded.{BeginsInterims, IsFinal, ForwardsRequest, forwarded_answer}
+use Rattle.hx_message.specs.Partial.{HasWholeRequest, HasWholeAnswer}
 use Rattle.hx_message.proofs.Unique.{interim_final}
 use Rattle.hx_session_parts.specs.Answers.{AnswerLooks}
 use Rattle.hx_session_parts.specs.declared.answers.AnswerLook.TheVariants as answer
-use Rattle.hx_session_parts.specs.Asks.{AskLooks}
 use Rattle.hx_session_parts.specs.OnWay.{AreInterimsOnWay}
 use Rattle.hx_session_parts.proofs.OnWayLemmas.{begins_interims}
-use Rattle.hx_session_parts.specs.declared.asks.AskLook.TheVariants as ask
 use Rattle.hx_connecting.specs.Around.{resting}
-use Rattle.hx_connecting.specs.Sessions.{SessionNow}
 use Rattle.hx_session.specs.declared.exchange.AnswerWay.{AnswerWay}
 use Rattle.hx_session.specs.declared.exchange.AnswerWay.TheVariants.{Heads, Body}
 use Rattle.hx_session.specs.declared.exchange.BodyWay.{BodyWay}
@@ -38,8 +35,8 @@ use Rattle.hx_session.specs.Exchanged.{ExchangeNow}
 use Rattle.hx_session.specs.Over.{closing_of}
 use Rattle.hx_session.specs.Seen.{session_seen}
 use Rattle.hx_session.specs.Since.{HasSince}
-use Rattle.hx_session.specs.Stages.{StageNow, AnsweringNow, ChoosingNow, StandsSo, IsBetween, Reading, Choosing, Exchanging, Answering, Left}
-use Rattle.hx_session.specs.Standstill.{AnswerPassed, AskPassed, MayGoOn, ReadWaits, Stands, StandsBy, StandsIdle, StandsInExchange, WriteWaits}
+use Rattle.hx_session.specs.Stages.{StageNow, StandsSo, IsBetween, Reading, Choosing, Exchanging, Answering, Left}
+use Rattle.hx_session.specs.Standstill.{AnswerPassed, AskPassed, ReadWaits, Stands, StandsBy, StandsIdle, StandsInExchange, WriteWaits}
 use Rattle.hx_session.specs.Still.{ReadWaited, WriteWaited, CannotGive, CannotRead, StageStill}
 use Rattle.hx_session.specs.Waiting.{AnswerIdle, AskIdle, CannotReadServer, CannotSend, HeadIdle, NothingLeft, StandsStill}
 use Rattle.hx_session.proofs.MessageEnds.{going_none, ask_none, ask_whole, answer_unwhole}

@@ -1,10 +1,10 @@
 -- Why a session leaves.
-use Rattle.std.proofs.Common.{◌≡◌, ◌⊎◌, ◌≤◌, ◌+◌, ℕ, Bool, true, false, List, [], ◌∷◌, ◌++◌, length, take, drop, refl, sym, ap, subst, ◌∙◌, inl, inr, arith, length-append, Option, Some, None, ⊎_elim}
+use Rattle.std.proofs.Common.{◌≡◌, ◌⊎◌, ◌≤◌, ℕ, Bool, true, false, List, [], ◌∷◌, ◌++◌, length, take, drop, refl, sym, ap, subst, ◌∙◌, inl, inr, arith, length-append, Option, Some, None, ⊎_elim}
 use Rattle.std.specs.Prelude.{IfSome, if◌then◌else◌}
 use Rattle.std.proofs.lemmas.List.{take-append-drop}
 use Rattle.std.specs.List.{slice_get}
 use Rattle.httparse.specs.Ascii.{space}
-use Rattle.httparse.specs.Grammar.{RequestHead, ReadsRequest, HasNoRequest, MayBecomeRequest, print_blank}
+use Rattle.httparse.specs.Grammar.{ReadsRequest, HasNoRequest, MayBecomeRequest, print_blank}
 use Rattle.hx_record.specs.Samples.{ask as sample}
 use Rattle.hx_record.proofs.TrueSamples.{ask_head, asked}
 use Rattle.hx_session_parts.specs.Asks.{AskLooks}
@@ -16,7 +16,6 @@ use Rattle.hx_config.specs.declared.parts.Back.{Back}
 use Rattle.hx_config.specs.declared.parts.Front.{Front}
 use Rattle.hx_config.specs.Meaning.{Meaning}
 use Rattle.hx_connecting.specs.Choosing.{back_at, back_no}
-use Rattle.hx_connecting.specs.Sessions.{SessionNow}
 use Rattle.hx_link.specs.Told.{LinkState}
 use Rattle.hx_message.specs.Partial.{HasWholeRequest}
 use Rattle.hx_record.specs.declared.served.CutCause.{CutCause}
@@ -27,11 +26,9 @@ use Rattle.hx_record.specs.declared.served.Left.{Left as Leave}
 use Rattle.hx_record.specs.declared.served.LeftCause.{LeftCause}
 use Rattle.hx_record.specs.declared.served.LeftCause.TheVariants as cause
 use Rattle.hx_record.specs.declared.served.Served.{Served}
-use Rattle.hx_session.specs.declared.deadline.Late.{Late}
 use Rattle.hx_session.specs.declared.deadline.Late.TheVariants.{Client}
 use Rattle.hx_session.specs.declared.stage.Came.{Came}
 use Rattle.hx_session.specs.declared.stage.Came.TheVariants.{On, Moved, Ends}
-use Rattle.hx_session.specs.declared.stage.Ending.{Ending}
 use Rattle.hx_session.specs.Causes.{HasCome, Limits, LeavesFor, ended, after, idle, fault}
 use Rattle.hx_session.specs.Desks.{DeskNow}
 use Rattle.hx_session.specs.Exchanged.{ExchangeNow}
@@ -41,10 +38,9 @@ use Rattle.hx_session.specs.Leaving.{LeavesBy, CameLeaves, NoneWhole}
 use Rattle.hx_session.specs.Moves.{GivesClient, ReadsClient}
 use Rattle.hx_session.specs.declared.moves.Move.TheVariants.{Failed}
 use Rattle.hx_session.specs.Records.{cut_ends, ends_after}
-use Rattle.hx_session.specs.Since.{HasSince}
 use Rattle.hx_session.specs.Seen.{session_seen}
 use Rattle.hx_session.specs.Stages.{StageNow, Exchanging, IsBetween}
-use Rattle.hx_session.specs.Telling.{CameTells, DoneTells, IsOfStage, LeavesOwn, LeavesPlainly, LeavesWith, TellsEnd}
+use Rattle.hx_session.specs.Telling.{CameTells, DoneTells, IsOfStage, LeavesOwn, LeavesWith, TellsEnd}
 use Rattle.hx_session.proofs.IdleLemmas.{since_bytes}
 
 -- no request stands in no bytes

@@ -1,5 +1,5 @@
 -- An own answer that is decided.
-use Rattle.std.proofs.Common.{◌≡◌, ◌⊎◌, ℕ, refl, sym, ap, subst, ◌∙◌, inl, inr, List, Option, Some, None, ⊎_elim}
+use Rattle.std.proofs.Common.{◌≡◌, ◌⊎◌, ℕ, refl, sym, ap, subst, ◌∙◌, List, Option, Some, None}
 use Rattle.std.specs.Prelude.{IfSome}
 use Rattle.hx_config.specs.declared.parts.Server.{Server}
 use Rattle.hx_link.specs.Told.{LinkState}
@@ -9,7 +9,6 @@ use Rattle.hx_record.specs.declared.served.Served.{Served}
 use Rattle.hx_session.specs.declared.moves.Move.{Move}
 use Rattle.hx_session.specs.declared.moves.Move.TheVariants.{Idle, Bytes, Waits, Ended, Failed}
 use Rattle.hx_session.specs.declared.stage.Came.{Came}
-use Rattle.hx_session.specs.declared.stage.Came.TheVariants.{Ends}
 use Rattle.hx_session.specs.Beginning.{ChoosesIn}
 use Rattle.hx_session.specs.Deciding.{KeepsOwn}
 use Rattle.hx_session.specs.Desks.{DeskNow}

@@ -36,9 +36,8 @@ use Rattle.hx_session.proofs.StaysLemmas.{carries_told}
 use Rattle.hx_session.specs.Seen.{conn_seen, chosen_seen}
 use Rattle.hx_session.specs.Picking.{Picks, PicksTo}
 use Rattle.hx_session.proofs.PickLemmas.{picks_from, to_answer, to_same, to_choosing, on_same, ends_held}
-use Rattle.hx_session_parts.specs.Asks.{IsAsked}
 use Rattle.hx_session.specs.Fits.{GoesTo}
-use Rattle.hx_session.specs.Stages.{StageNow, ChoosingNow, Reading, Choosing, Exchanging, StandsSo, IsBetween, own_stage, stage_now}
+use Rattle.hx_session.specs.Stages.{StageNow, ChoosingNow, IsAhead, Reading, Choosing, Exchanging, StandsSo, IsBetween, own_stage, stage_now}
 use Rattle.hx_session.specs.Standing.{server_held, IsLeaving, CamePlaced, CameRouted, Goes, ComesTo, IsNumbered, IsSet, IsPlaced, KeepsDesk, KeepsAsk, KeepsPlace, KeepsOver, IsSameConn, IsRoutedTo}
 use Rattle.hx_session.specs.Telling.{CameTells, IsStillTold, LeavesPlainly, TellsEnd, TellsMoved}
 use Rattle.hx_session.proofs.TellLemmas.{came_then, none_same, still_same}
@@ -110,7 +109,7 @@ goes_moved d stage w seats net p = record {
 
 -- a request's head is there
 pub goes_choosing : {X : Type 0} (d d2 : DeskNow) (held : Option RestedNow) (c : ChoosingNow) (stage : Stage X) (w : Waiting) (seats : List History) (net : NetState) → d2 ≡ d → stage_now stage ≡ Choosing c → c.held ≡ held
-    → c.server ≡ server_held held → IsAsked d.from.bytes c.asked → IsPlaced d (Reading held) seats → Goes d (Reading held) seats net d2 (Moved stage w None) seats net
+    → c.server ≡ server_held held → IsAhead d.from.bytes c.length c.kind → IsPlaced d (Reading held) seats → Goes d (Reading held) seats net d2 (Moved stage w None) seats net
 goes_choosing d d2 held c stage w seats net e is same server asked p =
     let its = server ∙ ap server_held (sym same) in
     subst (λ (x : DeskNow). Goes d (Reading held) seats net x (Moved stage w None) seats net) (sym e) (record {

@@ -1,25 +1,21 @@
 -- A step that didn't move yet: what its parts leave.
 use Rattle.std.specs.Prelude.{◌||◌}
-use Rattle.std.proofs.Common.{◌≡◌, ◌⊎◌, ◌≤◌, ℕ, Bool, true, false, List, [], length, refl, sym, ap, subst, ◌∙◌, inl, inr, arith, Option, Some, None, ⊎_elim}
-use Rattle.hx_conn.specs.Conns.{BusyNow, RestedNow}
+use Rattle.std.proofs.Common.{◌≡◌, ℕ, Bool, true, false, List, refl, sym, ap, subst, ◌∙◌, inl, inr, arith, ⊎_elim}
+use Rattle.hx_conn.specs.Conns.{BusyNow}
 use Rattle.hx_conn.specs.Steps.{after_call}
 use Rattle.hx_config.specs.declared.parts.Server.{Server}
-use Rattle.hx_link.specs.declared.answers.Got.TheVariants as got
-use Rattle.hx_link.specs.declared.answers.Put.TheVariants as put
-use Rattle.hx_link.specs.Links.{LinkReads, LinkWrites}
 use Rattle.hx_link.specs.Told.{LinkState, CountsOne}
 use Rattle.hx_pool.specs.SeatView.{History}
 use Rattle.hx_session.specs.declared.moves.Move.{Move}
 use Rattle.hx_session.specs.declared.moves.Move.TheVariants.{Idle, Bytes, Waits, Ended, Failed}
 use Rattle.hx_session.specs.declared.stage.Came.{Came}
 use Rattle.hx_session.specs.declared.stage.Came.TheVariants.{On, Moved, Ends}
-use Rattle.hx_session.specs.declared.stage.Stage.{Stage}
 use Rattle.hx_session.specs.declared.step.Waiting.{Waiting as Waits_}
 use Rattle.hx_session.specs.Beginning.{ChoosesIn}
 use Rattle.hx_session.specs.Desks.{DeskNow}
 use Rattle.hx_session.specs.Exchanged.{ExchangeNow}
 use Rattle.hx_session.specs.Moves.{with_client, GivesClient, ReadsClient}
-use Rattle.hx_session.specs.Stages.{StageNow, ChoosingNow, AnsweringNow, Reading, Choosing, Exchanging, Answering, Left, stage_now}
+use Rattle.hx_session.specs.Stages.{StageNow, Reading, Choosing, Exchanging, Answering, Left, stage_now}
 use Rattle.hx_session.specs.Still.{HasOnlyWaited, ReadWaited, WriteWaited, IsStill, StageStill, CannotGive, CannotRead, HasMoved, WhereOn, with_link}
 use Rattle.hx_session.specs.Waiting.{SendsNone, ReadsNone, CannotSend, CannotReadServer, IsGiven, IsIdle, IsNone, IsPaused, IsUnread, NothingLeft, PausedOrChosen, StandsStill, AskIdle, LeavesNothing, StaysOrMoves}
 use Rattle.hx_session.specs.Finishing.{SpellsNone}

@@ -12,7 +12,6 @@ use Rattle.hx_pool.specs.Opening.{HasConn}
 use Rattle.hx_pool.specs.SeatView.{History}
 use Rattle.hx_record.specs.declared.served.CutCause.{CutCause}
 use Rattle.hx_record.specs.declared.served.Served.{Served}
-use Rattle.hx_session_parts.specs.Asks.{IsAsked}
 use Rattle.hx_connecting.specs.Around.{HasAround, resting}
 use Rattle.hx_connecting.specs.Choosing.{servers_of}
 use Rattle.hx_connecting.specs.Closing.{AtSeat, HasHeld}
@@ -29,7 +28,7 @@ use Rattle.hx_session.specs.Parting.{PartTouches}
 use Rattle.hx_session.specs.Since.{HasSince}
 use Rattle.hx_session.specs.Picking.{Picks}
 use Rattle.hx_session.specs.Seen.{chosen_seen, conn_seen}
-use Rattle.hx_session.specs.Stages.{own_stage, StageNow, ChoosingNow, Reading, Choosing, Exchanging, Answering, IsBetween}
+use Rattle.hx_session.specs.Stages.{own_stage, StageNow, ChoosingNow, IsAhead, Reading, Choosing, Exchanging, Answering, IsBetween}
 use Rattle.hx_session.specs.declared.stage.Came.{Came}
 use Rattle.hx_session.specs.declared.stage.Came.TheVariants.{Ends}
 use Rattle.hx_session.specs.declared.stage.Ending.{Ending}
@@ -130,7 +129,7 @@ leaves_between d held seats b n around own = record {
 }
 
 -- a request whose head is there
-pub choosing_placed : (d : DeskNow) (c : ChoosingNow) (seats : List History) → IsAsked d.from.bytes c.asked → c.server ≡ server_held c.held → IsPlaced d (Reading c.held) seats → IsPlaced d (Choosing c) seats
+pub choosing_placed : (d : DeskNow) (c : ChoosingNow) (seats : List History) → IsAhead d.from.bytes c.length c.kind → c.server ≡ server_held c.held → IsPlaced d (Reading c.held) seats → IsPlaced d (Choosing c) seats
 choosing_placed d c seats asked server p = record {
   set = record { stands = (p.set.stands, asked); numbered = p.set.numbered; around = p.set.around; own = p.set.own };
   good = goes c.held c.server server;

@@ -25,7 +25,8 @@ ChoosesServer servers turn turn' olds news (Some v) server = (server ≡ Some v)
 ChoosesServer servers turn turn' olds news None server = Chooses servers turn turn' olds news server
 
 pub record ChoosesFor (servers : List Server) (turn turn' : ℕ) (olds news : List History) (c c' : ChoosingNow) : Type 0 where
-  pub asked : c'.asked ≡ c.asked
+  pub length : c'.length ≡ c.length
+  pub kind : c'.kind ≡ c.kind
   pub held : c'.held ≡ c.held
   pub server : ChoosesServer servers turn turn' olds news c.server c'.server
 

@@ -1,5 +1,5 @@
 -- What the parts of a step decide, and why: an own answer, or that the exchange is cut off.
-use Rattle.std.specs.Prelude.{◌≡◌, ◌⊎◌, ℕ, ◌<◌, ◌≤◌, List, [], ◌∷◌, Option, Some, None, IfSome, ⊤}
+use Rattle.std.specs.Prelude.{◌≡◌, ◌⊎◌, ℕ, ◌<◌, ◌≤◌, [], Option, Some, None, ⊤}
 use Rattle.hx_conn.specs.Conns.{BusyNow}
 use Rattle.hx_connecting.specs.Sessions as seen
 use Rattle.hx_link.specs.Nets.{NetState}

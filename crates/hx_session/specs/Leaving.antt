@@ -1,5 +1,5 @@
 -- Why a session leaves where no record says it: its client ended, its client's link failed, or a deadline came.
-use Rattle.std.specs.Prelude.{◌≡◌, ◌⊎◌, ℕ, ◌≤◌, true, List, drop, Option, Some, None, IfSome, ⊤}
+use Rattle.std.specs.Prelude.{◌≡◌, ◌⊎◌, ℕ, ◌≤◌, true, drop, IfSome, ⊤}
 use Rattle.hx_link.specs.Told.{LinkState}
 use Rattle.hx_message.specs.Partial.{HasWholeRequest}
 use Rattle.hx_record.specs.declared.served.LeftCause.{LeftCause}

@@ -8,6 +8,7 @@ use Rattle.hx_base.specs.declared.numbers.Millis.{Millis}
 use Rattle.hx_link.specs.Pipes.{pipe}
 use Rattle.hx_link.specs.Told.{LinkState}
 use Rattle.hx_conn.specs.Conns.{RestedNow}
+use Rattle.hx_message.specs.declared.BodyKind.{BodyKind}
 use Rattle.hx_session_parts.specs.declared.asks.Asked.{Asked}
 use Rattle.hx_session_parts.specs.Asks.{IsAsked}
 use Rattle.hx_session.specs.declared.stage.Choosing.{Choosing as Held}
@@ -22,7 +23,8 @@ use Rattle.hx_session.specs.Over.{BeginsAnew}
 
 -- a request whose exchange hasn't begun
 pub record ChoosingNow : Type 0 where
-  pub asked : Asked
+  pub length : ℕ
+  pub kind : BodyKind
   pub server : Option ServerNo
   pub held : Option RestedNow
 
@@ -38,7 +40,7 @@ pub data StageNow : Type 0 where
   Left : StageNow
 
 abbrev pub choosing_now : {X : Type 0} → Held X → ChoosingNow
-choosing_now c = record { asked = c.asked; server = c.server; held = c.held }
+choosing_now c = record { length = c.length; kind = c.kind; server = c.server; held = c.held }
 
 abbrev pub stage_of_choosing : {X : Type 0} → Held X → StageNow
 stage_of_choosing c = Choosing (choosing_now c)
@@ -73,10 +75,17 @@ pub record IsAnswering (d : DeskNow) (status : ℕ) : Type 0 where
   pub back : text ≡ gave ++ d.to.bytes
   pub ordered : d.ask_from ≤ d.taken
 
+-- a request that can be served is at the front of the bytes, with a head of so many bytes and a body of that kind
+pub record IsAhead (bytes : List ℕ) (length : ℕ) (kind : BodyKind) : Type 0 where
+  pub ask : Asked
+  pub is : IsAsked bytes ask
+  pub length_is : length ≡ ask.head.length
+  pub kind_is : kind ≡ ask.kind
+
 -- what holds at each stage
 abbrev pub StandsSo : DeskNow → StageNow → Type 0
 StandsSo d (Reading held) = IsBetween d
-StandsSo d (Choosing c) = IsBetween d × IsAsked d.from.bytes c.asked
+StandsSo d (Choosing c) = IsBetween d × IsAhead d.from.bytes c.length c.kind
 StandsSo d (Exchanging e) = IsCarried d e
 StandsSo d (Answering a) = IsAnswering d a.status
 StandsSo d Left = IsDesk d

@@ -1,6 +1,5 @@
 -- A step of a session: what a worker learns of it.
 use Rattle.std.specs.Prelude.{◌≡◌, ◌⊎◌, ℕ, ◌<◌, true, false, List, [], Option, Some, None, IfSome, IsSome}
-use Rattle.hx_base.specs.Counts.{Rose}
 use Rattle.hx_config.specs.Meaning.{Meaning}
 use Rattle.hx_link.specs.Told.{LinkState}
 use Rattle.hx_connecting.specs.Wanted.{OpensWereWanted}

@@ -1,3 +1,4 @@
+pub mod AgainLemmas
 pub mod BodyLemmas
 pub mod GrowthLemmas
 pub mod LookLemmas

@@ -78,6 +78,10 @@ pub record IsAskOf (bytes : List ℕ) (a : Asked) (g : RequestHead) : Type 0 whe
 abbrev pub IsAsked : List ℕ → Asked → Type 0
 IsAsked bytes a = (g : RequestHead) × IsAskOf bytes a g
 
+-- a request that can be served is at the front of the bytes
+abbrev pub HasAsked : List ℕ → Type 0
+HasAsked bytes = (a : Asked) × IsAsked bytes a
+
 -- each answer has its cause
 abbrev pub AskLooks : List ℕ → AskLook → Type 0
 AskLooks bytes (Whole a) = IsAsked bytes a

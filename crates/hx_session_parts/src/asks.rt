@@ -5,7 +5,7 @@ ghost use Rattle.hx_frame.specs.declared.progress.MeterState.TheVariants.{Bad};
 ghost use Rattle.hx_frame.specs.Meters.{state_of};
 ghost use Rattle.hx_head.specs.Causes.{code_of};
 ghost use Rattle.hx_head.specs.declared.refusal.Refusal.{Refusal};
-ghost use Rattle.hx_session_parts.specs.Asks.{most_text, AskLooks, IsAsked, SpellsAskWith, LeavesAsk, fault_of_cause, fault_of_framing};
+ghost use Rattle.hx_session_parts.specs.Asks.{most_text, AskLooks, HasAsked, IsAsked, SpellsAskWith, LeavesAsk, fault_of_cause, fault_of_framing};
 
 use crate::fault::AskFault;
 use hx_frame::{Meter, body_of_request, wants_close};
@@ -79,6 +79,18 @@ pub fn look_ask(bytes: &[u8]) -> AskLook
                 wants_close: wants_close(bytes, &head),
             }),
         },
+    }
+}
+
+/// The request at the front of the bytes, where one that can be served is there: it is looked at again.
+pub fn asked_at(bytes: &[u8]) -> Asked
+    requires { HasAsked bytes.now }
+    ensures { IsAsked bytes.now result }
+{
+    match look_ask(bytes) {
+        AskLook::Whole(asked) => asked,
+        AskLook::More => unreachable!(),
+        AskLook::Refused(_) => unreachable!(),
     }
 }
 

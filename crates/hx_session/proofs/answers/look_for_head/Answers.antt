@@ -16,7 +16,6 @@ use Rattle.hx_session.proofs.PartLemmas.{went_on, still_on}
 use Rattle.hx_session.proofs.TellLemmas.{still_same}
 use Rattle.hx_session.proofs.PausedLemmas.{heads_leave, left_where, spelled_leaves}
 use Rattle.hx_session.specs.Finishing.{SpellsNone}
-use Rattle.hx_session.specs.Waiting.{LeavesNothing}
 use Rattle.hx_session.proofs.DecidedLemmas.{as_loss, as_server, spelled_decides, broken_decides, ended_cut, loss_decides, stays_decide}
 use Rattle.hx_session.proofs.EventLemmas.{broken_head, no_head}
 use Rattle.hx_session.specs.Decided.{EndsByServer, LosesServer}

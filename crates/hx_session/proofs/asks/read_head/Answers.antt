@@ -23,13 +23,13 @@ returns-in-Whole g c = record {
   goes = λ seats net p.
       let d : DeskNow = desk_now g.L.Link.state c.args.desk.now in
       let from : PipeNow = c.look_up.new.from in
-      let server = c.held_server-server in
-      goes_choosing d (record d { from = from }) c.args.held (record { asked = c.in-Whole.asked; server = server.result; held = c.args.held }) _ c.args.waits seats net
-      (ap (λ (q : PipeNow). record d { from = q }) c.look_up.ensures.same) refl refl server.ensures c.in-Whole.ensures.looks p;
+      let server = c.held_server in
+      goes_choosing d (record d { from = from }) c.args.held (record { length = c.in-Whole.asked.head.length; kind = c.in-Whole.asked.kind; server = server.result; held = c.args.held }) _ c.args.waits seats net
+      (ap (λ (q : PipeNow). record d { from = q }) c.look_up.ensures.same) refl refl server.ensures (record { ask = c.in-Whole.asked; is = c.in-Whole.ensures.looks; length_is = refl; kind_is = refl }) p;
   first = λ l f. omega (arith, c.len.ensures.len, c.if-len-eq0.false, ap length f.from);
   left = λ limits moment. tt;
   still = tt;
-  decides = λ limits moment net. unowned limits moment (desk_now g.L.Link.state c.args.desk.now) (Reading c.args.held) net (record (desk_now g.L.Link.state c.args.desk.now) { from = c.look_up.new.from }) net (stage_of_choosing {X = g.row.L.Denot} (record { asked = c.in-Whole.asked; server = c.held_server-server.result; held = c.args.held })) refl;
+  decides = λ limits moment net. unowned limits moment (desk_now g.L.Link.state c.args.desk.now) (Reading c.args.held) net (record (desk_now g.L.Link.state c.args.desk.now) { from = c.look_up.new.from }) net (stage_of_choosing {X = g.row.L.Denot} (record { length = c.in-Whole.asked.head.length; kind = c.in-Whole.asked.kind; server = c.held_server.result; held = c.args.held })) refl;
 }
 
 pub returns-in-More-clause-goes : goal.returns-in-More-clause-goes

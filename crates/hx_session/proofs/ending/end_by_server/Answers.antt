@@ -1,10 +1,6 @@
-use Rattle.std.proofs.Common.{◌≡◌, ◌⊎◌, ℕ, Bool, true, false, List, map, refl, sym, ap, subst, ◌∙◌, inl, inr, arith, Option, Some, None, ⊎_elim}
-use Rattle.hx_link.specs.Nets.{NetState}
-use Rattle.hx_record.specs.declared.served.CutCause.{CutCause}
-use Rattle.hx_record.specs.declared.served.CutCause.TheVariants as cut
-use Rattle.hx_session.specs.Decided.{Given, IsHeard, IsSilent, Ungiven}
+use Rattle.std.proofs.Common.{◌≡◌, Bool, true, false, ⊎_elim}
+use Rattle.hx_session.specs.Decided.{Given, Ungiven}
 use Rattle.hx_session.specs.Desks.{desk_now, DeskNow}
-use Rattle.hx_session.specs.Exchanged.{exchange_now, ExchangeNow}
 use Rattle.hx_session.proofs.DecidedLemmas.{ends_map}
 use Rattle.std.specs.Prelude.{IsTrue, ◌↔◌, ◌<◌}
 use Rattle.std.proofs.lemmas.Bool.{cases_lt}

@@ -1,10 +1,7 @@
-use Rattle.std.proofs.Common.{◌≡◌, ◌⊎◌, ℕ, Bool, true, false, List, map, refl, sym, ap, subst, ◌∙◌, inl, inr, arith, Option, Some, None, ⊎_elim}
-use Rattle.hx_link.specs.Nets.{NetState}
-use Rattle.hx_record.specs.declared.served.CutCause.{CutCause}
+use Rattle.std.proofs.Common.{◌≡◌, ◌⊎◌, inl, inr}
 use Rattle.hx_record.specs.declared.served.CutCause.TheVariants as cut
 use Rattle.hx_session.specs.Decided.{Given, IsHeard, IsSilent, Ungiven}
 use Rattle.hx_session.specs.Desks.{desk_now, DeskNow}
-use Rattle.hx_session.specs.Exchanged.{exchange_now, ExchangeNow}
 use Rattle.hx_session.proofs.DecidedLemmas.{ends_map}
 use Rattle.hx_session.proofs.ending.lose_server.Goals as goal
 

@@ -1,8 +1,7 @@
-use Rattle.std.proofs.Common.{◌≡◌, ℕ, List, map, refl, sym, ap, subst, ◌∙◌, Option, Some, None}
+use Rattle.std.proofs.Common.{ℕ, subst}
 use Rattle.hx_link.specs.Nets.{NetState}
 use Rattle.hx_session.specs.Desks.{desk_now, DeskNow}
 use Rattle.hx_session.specs.Exchanged.{exchange_now, ExchangeNow}
-use Rattle.hx_session.specs.Stages.{StageNow}
 use Rattle.hx_session.proofs.DecidedLemmas.{client_decides, cut_decides}
 use Rattle.hx_session.specs.Causes.{client}
 use Rattle.hx_session.specs.Decided.{EndsByServer}

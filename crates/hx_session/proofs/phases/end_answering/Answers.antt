@@ -1,7 +1,7 @@
 use Rattle.hx_session.specs.Desks.{desk_now, DeskNow}
 use Rattle.hx_session.specs.Stages.{stage_of_answering}
 use Rattle.hx_session.proofs.PausedLemmas.{left_where}
-use Rattle.hx_session.proofs.DecidedLemmas.{answering_decides, own_only, far_self}
+use Rattle.hx_session.proofs.DecidedLemmas.{answering_decides, own_only}
 use Rattle.hx_session.proofs.phases.end_answering.Goals as goal
 
 pub returns-clause-left : goal.returns-clause-left

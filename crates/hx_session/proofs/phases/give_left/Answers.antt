@@ -11,7 +11,6 @@ use Rattle.hx_session.proofs.PickLemmas.{closes_none}
 use Rattle.hx_session.specs.Leaving.{LeavesBy}
 use Rattle.hx_session.proofs.LeavingLemmas.{loose_leaves}
 use Rattle.hx_session.proofs.DecidedLemmas.{done_leaves}
-use Rattle.hx_session.specs.Decided.{DoneDecides}
 use Rattle.hx_session.proofs.DecidedLemmas.{lets_bury}
 use Rattle.hx_session.proofs.phases.give_left.Goals as goal
 

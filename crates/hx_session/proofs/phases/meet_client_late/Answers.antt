@@ -11,7 +11,6 @@ use Rattle.hx_session.proofs.LeavingLemmas.{told_leaves}
 use Rattle.hx_session.specs.Seen.{own_seen}
 use Rattle.hx_session.proofs.OwningLemmas.{none_own, own_here}
 use Rattle.hx_session.proofs.PausedLemmas.{moved_where}
-use Rattle.hx_session.specs.Stages.{StageNow}
 use Rattle.hx_session.proofs.DecidedLemmas.{answering_decides, own_only}
 use Rattle.hx_session.specs.Decided.{CameDecides, ClientComes}
 use Rattle.hx_session.proofs.DecidedLemmas.{not_reading, not_there}

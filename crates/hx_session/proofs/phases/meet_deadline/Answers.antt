@@ -11,7 +11,7 @@ use Rattle.hx_connecting.specs.Journals.{room_of}
 use Rattle.hx_connecting.proofs.RoomLemmas.{rooms_none}
 use Rattle.hx_session.specs.Seen.{conn_seen}
 use Rattle.hx_session.proofs.PickLemmas.{kind_self}
-use Rattle.hx_session.proofs.FirstLemmas.{fresh_desk, fresh_late}
+use Rattle.hx_session.proofs.FirstLemmas.{fresh_desk}
 use Rattle.hx_session.proofs.DecidedLemmas.{far_same}
 use Rattle.hx_session.proofs.phases.meet_deadline.Goals as goal
 

@@ -39,7 +39,6 @@ use Rattle.hx_session.specs.Picked.{StepPicks}
 use Rattle.hx_session.specs.Picking.{PicksAll}
 use Rattle.hx_session.proofs.ChosenLemmas.{step_picks}
 use Rattle.hx_session.proofs.EntryLemmas.{below}
-use Rattle.hx_config.specs.declared.parts.Front.{Front}
 use Rattle.hx_base.specs.declared.numbers.Millis.{Millis}
 use Rattle.std.specs.Prelude.{Option}
 use Rattle.hx_session.specs.Causes.{CanBeLate, HasCome}
