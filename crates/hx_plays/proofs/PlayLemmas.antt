@@ -24,7 +24,7 @@ use Rattle.std.specs.Prelude.{IfOk}
 use Rattle.hx_base.specs.declared.numbers.NoMemory.{NoMemory}
 use Rattle.hx_plays.specs.declared.plays.Replay.{Replay}
 use Rattle.hx_plays.specs.declared.plays.Replay.TheVariants as replay
-use Rattle.hx_plays.specs.Plays.{TellsServers, HasScriptFault, most_turns, IsRunOf, IsPlayOf}
+use Rattle.hx_plays.specs.Plays.{TellsServers, HasScriptFault, most_turns, EndsWithin, IsRunOf, IsPlayOf}
 
 too_long : (text : List ℕ) → longest_text < length text → meaning_of text ≡ Err (flaw.Line 1 TooLong)
 unfolding meaning_of
@@ -83,10 +83,16 @@ threads_fault bytes m e several = inr (record { script = m; reads = e; several =
 -- what a script of one thread is replayed to
 run_plays : (bytes : List ℕ) (m : Meaning) (most : ℕ) (r : Replay) → meaning_of bytes ≡ Ok m → m.config.threads ≡ 1 → most ≡ most_turns (length bytes) (length m.clients)
     → IsRunOf m most r → IsPlayOf bytes r
-run_plays bytes m most (replay.Text text) e one is p = record { script = m; reads = e; one = one; tells = p }
+run_plays bytes m most (replay.Text text) e one is p = record {
+  script = m;
+  reads = e;
+  one = one;
+  tells = p.0;
+  within = subst (λ (n : ℕ). EndsWithin m n) is p.1;
+}
 run_plays bytes m most (replay.ConfigFault line rule) e one is p = absurd p
 run_plays bytes m most (replay.ScriptFault line rule) e one is p = absurd p
-run_plays bytes m most (replay.Overrun turns) e one is p = record { script = m; reads = e; one = one; most = p ∙ is }
+run_plays bytes m most (replay.Overrun turns) e one is p = record { script = m; reads = e; one = one; most = p.0 ∙ is; made = p.1 }
 
 pub runs_play : (bytes : List ℕ) (m : Meaning) (most : ℕ) (r : Result Replay NoMemory) → meaning_of bytes ≡ Ok m → m.config.threads ≡ 1 → most ≡ most_turns (length bytes) (length m.clients)
     → IfOk r (IsRunOf m most) → IfOk r (IsPlayOf bytes)

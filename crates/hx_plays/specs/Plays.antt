@@ -1,7 +1,9 @@
 -- What any script of one thread is replayed to.
 use Rattle.std.specs.Prelude.{◌≡◌, ℕ, ◌+◌, ◌*◌, ◌<◌, ◌⊎◌, List, length, Ok, Err}
 use Rattle.hx_config.specs.Limits.{all_servers}
+use Rattle.hx_link.specs.Nets.{NetState}
 use Rattle.hx_pool.specs.Journal.{Journal}
+use Rattle.hx_run.specs.Courses.{MakesAll, MakesFewer}
 use Rattle.hx_script.specs.TrueTranscript.{Ends, IsTrueTranscript}
 use Rattle.hx_script.specs.Printed.{Spells}
 use Rattle.hx_script.specs.declared.transcript.Transcript.{Transcript}
@@ -33,12 +35,26 @@ pub record TellsServers (script : Meaning) (text : List ℕ) : Type 0 where
   pub servers : transcript.servers ≡ parts_of (named_servers script.config.backs) seats
   pub script_told : TellsScript script transcript
 
--- the bytes are a script of one thread, and the text is that of a true transcript of its servers
+-- how many turns end a replay of so many bytes and clients
+abbrev pub most_turns : ℕ → ℕ → ℕ
+most_turns bytes clients = 16 * bytes + 64 * clients
+
+-- a whole replay of the script made fewer turns
+abbrev pub EndsWithin : Meaning → ℕ → Type 0
+EndsWithin script most = (net : NetState) × MakesFewer script.config script.clients script.plans most net
+
+-- a replay of the script made so many turns, and went on no further
+abbrev pub RunsOut : Meaning → ℕ → Type 0
+RunsOut script most = MakesAll script.config script.clients script.plans most
+
+-- the bytes are a script of one thread, and the text is that of a true transcript of its servers; a whole replay of it made fewer
+-- turns than end it
 pub record Plays (bytes text : List ℕ) : Type 0 where
   pub script : Meaning
   pub reads : meaning_of bytes ≡ Ok script
   pub one : script.config.threads ≡ 1
   pub tells : TellsServers script text
+  pub within : EndsWithin script (most_turns (length bytes) (length script.clients))
 
 -- the most bytes of a script
 abbrev pub most_script : ℕ
@@ -66,16 +82,13 @@ HasScriptFault bytes line rule =
     ((broken : Rule) × (meaning_of bytes ≡ Err (flaw.Line line broken)) × (rule ≡ code_of broken))
     ⊎ HasThreads bytes line rule
 
--- how many turns a replay may make
-abbrev pub most_turns : ℕ → ℕ → ℕ
-most_turns bytes clients = 16 * bytes + 64 * clients
-
--- the bytes are a script of one thread, and so many turns are as many as its replay may make
+-- the bytes are a script of one thread, so many turns are as many as end its replay, and it made them
 pub record Overruns (bytes : List ℕ) (turns : ℕ) : Type 0 where
   pub script : Meaning
   pub reads : meaning_of bytes ≡ Ok script
   pub one : script.config.threads ≡ 1
   pub most : turns ≡ most_turns (length bytes) (length script.clients)
+  pub made : RunsOut script turns
 
 -- what any script is replayed to
 abbrev pub IsPlayOf : List ℕ → Replay → Type 0
@@ -84,8 +97,8 @@ IsPlayOf bytes (replay.ConfigFault line rule) = HasConfigFault bytes line rule
 IsPlayOf bytes (replay.ScriptFault line rule) = HasScriptFault bytes line rule
 IsPlayOf bytes (replay.Overrun turns) = Overruns bytes turns
 
--- what a script is replayed to, where so many turns may be made
+-- what a script is replayed to, where so many turns end it
 abbrev pub IsRunOf : Meaning → ℕ → Replay → Type 0
-IsRunOf script most (replay.Text text) = TellsServers script text.items
-IsRunOf script most (replay.Overrun turns) = turns ≡ most
+IsRunOf script most (replay.Text text) = TellsServers script text.items × EndsWithin script most
+IsRunOf script most (replay.Overrun turns) = (turns ≡ most) × RunsOut script turns
 IsRunOf script most _ = ⊥

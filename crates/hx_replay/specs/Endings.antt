@@ -40,7 +40,7 @@ pub record BreaksRule (words : List (List ℕ)) (old new : SourceState) (line ru
   pub out : IsReadOut most_script old new
   pub fault : IfSome old.left (λ text. HasScriptFault text line rule)
 
--- the source was read to its end without a fault, and as many turns were made as the replay of what it gave may make
+-- the source was read to its end without a fault, and as many turns were made as end the replay of what it gave
 pub record MadeAllTurns (words : List (List ℕ)) (old new : SourceState) (turns : ℕ) : Type 0 where
   pub command : Means words Replay
   pub ended : new.told_end ≡ true
@@ -203,7 +203,7 @@ IsBroken words old new sink_old sink_new =
     (rule : ℕ) × (line : ℕ) × Judged words old new (checked.Broken rule line)
     × WritesAll sink_old sink_new (broken_text rule line)
 
--- as many turns were made as may be, and the line that says so was written
+-- as many turns were made as end the replay, and the line that says so was written
 abbrev pub IsOverrun : List (List ℕ) → SourceState → SourceState → SinkState → SinkState → Type 0
 IsOverrun words old new sink_old sink_new =
     (turns : ℕ) × MadeAllTurns words old new turns × WritesAll sink_old sink_new (overrun_text turns)

@@ -1,10 +1,9 @@
 -- At the beginning of a replay nothing was told, and at its end nothing is left.
-use Rattle.std.proofs.Common.{◌≡◌, ◌≢◌, ℕ, zero, suc, ◌+◌, ◌<◌, ◌≤◌, List, [], ◌∷◌, length, map, refl, sym, ap, ◌∙◌, subst, arith, inl, inr, ⊎_elim, Option, Some, None}
-use Rattle.std.specs.Prelude.{slice_get, true, ◌==◌}
+use Rattle.std.proofs.Common.{◌≡◌, ℕ, zero, suc, ◌+◌, ◌<◌, ◌≤◌, List, [], ◌∷◌, length, map, refl, sym, ap, ◌∙◌, subst, arith, inl, ⊎_elim, Option, Some, None, Result, Err}
+use Rattle.std.specs.Prelude.{slice_get, true, ◌==◌, reverse}
 use Rattle.std.proofs.lemmas.Bool.{eqb-true, and_parts}
-use Rattle.hx_base.specs.declared.numbers.ConnId.{ConnId}
+use Rattle.std.proofs.lemmas.List.{append-nil}
 use Rattle.hx_base.specs.declared.numbers.PlaceNo.{PlaceNo}
-use Rattle.hx_base.specs.declared.numbers.ServerNo.{ServerNo}
 use Rattle.hx_base.specs.declared.plan.Plan.{Plan}
 use Rattle.hx_base.specs.declared.what.What.{What}
 use Rattle.hx_config.specs.Limits.{all_servers, are_numbered}
@@ -12,10 +11,7 @@ use Rattle.hx_config.specs.Meaning.{Meaning}
 use Rattle.hx_config.specs.declared.parts.Server.{Server}
 use Rattle.hx_connecting.specs.Journals.{JournalRoom}
 use Rattle.hx_course.proofs.CallLemmas.{course_begin}
-use Rattle.hx_course.specs.Courses.{KeepsCourse}
 use Rattle.hx_course.specs.Endings.{IsEmptied}
-use Rattle.hx_course.specs.Graves.{Grave}
-use Rattle.hx_course.specs.Places.{IsAtRest}
 use Rattle.hx_link.specs.MemoryNets.{MemoryNetNow, new_net}
 use Rattle.hx_link.specs.Nets.{NetState}
 use Rattle.hx_plain.specs.PlainSeat.{first_thread}
@@ -23,7 +19,7 @@ use Rattle.hx_pool.proofs.Purges.{le_cases}
 use Rattle.hx_pool.proofs.Tables.{Sound, sound_empty, sound_after, sound_at, put_other}
 use Rattle.hx_pool.specs.History.{table_from, table_after, EachStep, MeetsNeeds, IsLegal}
 use Rattle.hx_pool.specs.SeatView.{About, History, StandsInOneHistory}
-use Rattle.hx_pool.specs.Table.{Table, Unopened, HeldBy, IdleAt, Closed, Leaves, Needs, after_entry, after, empty_table, face_of}
+use Rattle.hx_pool.specs.Table.{Table, Unopened, HeldBy, IdleAt, Closed, Needs, after_entry, after, empty_table, face_of}
 use Rattle.hx_pool.specs.declared.entries.Entry.{Entry}
 use Rattle.hx_pool.specs.declared.entries.Entry.TheVariants.{Open, Park, Take, Free, Close, Look, Up, Down, Count, Gate, SetGate, Round}
 use Rattle.hx_pool.specs.declared.entries.Note.{Note}
@@ -31,12 +27,13 @@ use Rattle.hx_record.specs.declared.served.Told.{Told}
 use Rattle.hx_worker.specs.Workers.{WorkerNow, Each, new_worker}
 use Rattle.hx_run.specs.Begins.{BeginsFor, BeginFor}
 use Rattle.hx_planned.proofs.BeginPlans.{plans_begin}
-use Rattle.hx_planned.specs.Plans.{KeepsPlans}
 use Rattle.hx_script_parts.specs.declared.script.ClientLine.{ClientLine}
-use Rattle.hx_run.specs.Courses.{EndsCourse, EndsPlanned, plan_of}
+use Rattle.hx_run.proofs.Coursing.{Has}
+use Rattle.hx_run.specs.Courses.{ComesAll, EndsCourse, EndsPlanned, HasCourse, MakesAll, MakesFewer, plan_of}
 use Rattle.hx_run.specs.Dues.{ComeInOrder}
 use Rattle.hx_run.specs.Overs.{AllClosed, ClosedBelow}
-use Rattle.hx_run.specs.Runs.{IsWorking}
+use Rattle.hx_run.specs.Runs.{IsWorking, RunNow}
+use Rattle.hx_run.specs.Turns.{Makes, is_new}
 
 -- ---- the beginning
 
@@ -69,8 +66,7 @@ number_at k (x ∷ ss) (suc i) s n e =
     omega (arith, r)
 
 pub begins_course : (config : Meaning) (hs : List History) (js : List JournalRoom) (plans : List Plan) (room : ℕ) (net : MemoryNetNow) → are_numbered 0 (all_servers config.backs) ≡ true
-    → BeginFor (all_servers config.backs) hs → net ≡ new_net plans room
-    → (graves : List Grave) × KeepsCourse (new_worker first_thread config hs js) net.state [] graves × KeepsPlans [] plans (new_worker first_thread config hs js) net.state graves
+    → BeginFor (all_servers config.backs) hs → net ≡ new_net plans room → Has plans [] (new_worker first_thread config hs js) net.state [] 0
 begins_course config hs js plans room net numbered b is =
     let state : net.state ≡ (new_net plans room).state = ap (λ (n : MemoryNetNow). n.state) is in
     let unused : (i : ℕ) (h : History) → slice_get hs i ≡ Some h → h.seen ≡ [] = λ i h e. (begun_at (all_servers config.backs) hs i h b e).begins.unused.seen in (
@@ -83,6 +79,7 @@ begins_course config hs js plans room net numbered b is =
           unused
           (inl (ap (λ (n : NetState). n.buried) state)) (inl (ap (λ (n : NetState). n.dials) state)),
       plans_begin first_thread config hs js net.state (record { plans = plans; failing = None }) unused (ap (λ (n : NetState). n.course) state) (inl (ap (λ (n : NetState). n.dials) state)),
+      subst (λ (n : NetState). Makes plans (new_worker first_thread config hs js) n 0) (sym state) (is_new config hs js room b),
     )
 
 -- ---- the end
@@ -152,11 +149,38 @@ nothing_left w k none c = record {
       (c server.0 r.seat (there_below w.seats server.0 r.seat r.at) r.at) id.0 r.place r.rests;
 }
 
-pub ends_course : (plans came : List Plan) (w : WorkerNow) (net : NetState) (records : List Told) → IsWorking w → w.sessions ≡ [] → ClosedBelow (length w.seats) w.seats
-    → (graves : List Grave) × KeepsCourse w net records graves × KeepsPlans came plans w net graves → EndsCourse records net
-ends_course plans came w net records k none c h = record { worker = w; graves = h.0; course = h.1; empty = nothing_left w k none c }
+pub ends_course : (plans came : List Plan) (w : WorkerNow) (net : NetState) (records : List Told) (turns : ℕ) → IsWorking w → w.sessions ≡ [] → ClosedBelow (length w.seats) w.seats
+    → Has plans came w net records turns → EndsCourse records net
+ends_course plans came w net records turns k none c h = record { worker = w; graves = h.0; course = h.1; empty = nothing_left w k none c }
 
 -- and each client came
-pub ends_planned : (clients ordered : List ClientLine) (plans : List Plan) (w : WorkerNow) (net : NetState) (records : List Told) → IsWorking w → w.sessions ≡ [] → ClosedBelow (length w.seats) w.seats → ComeInOrder clients ordered
-    → (graves : List Grave) × KeepsCourse w net records graves × KeepsPlans (map plan_of ordered) plans w net graves → EndsPlanned clients plans records net
-ends_planned clients ordered plans w net records k none c order h = record { ordered = ordered; in_order = order; worker = w; one = k.thread; graves = h.0; course = h.1; empty = nothing_left w k none c; follows = h.2 }
+pub ends_planned : (clients ordered : List ClientLine) (plans : List Plan) (w : WorkerNow) (net : NetState) (records : List Told) (turns : ℕ) → IsWorking w → w.sessions ≡ [] → ClosedBelow (length w.seats) w.seats → ComeInOrder clients ordered
+    → Has plans (map plan_of ordered) w net records turns → EndsPlanned clients plans records net
+ends_planned clients ordered plans w net records turns k none c order h = record { ordered = ordered; in_order = order; worker = w; one = k.thread; graves = h.0; course = h.1; empty = nothing_left w k none c; follows = h.2 }
+
+-- each client came, and fewer turns were made than may be
+pub makes_fewer : (config : Meaning) (clients ordered : List ClientLine) (plans : List Plan) (most : ℕ) (net : NetState) (r : RunNow) → r.worker.config ≡ config → ComeInOrder clients ordered
+    → HasCourse plans (map plan_of ordered) r → r.worker.sessions ≡ [] → net ≡ r.net.state → r.turns < most → MakesFewer config clients plans most net
+makes_fewer config clients ordered plans most net r is order h none left few = record {
+  run = r;
+  replays = record { config_is = is; ordered = ordered; in_order = order; due = []; come = (ordered, sym (append-nil ordered), h) };
+  whole = refl;
+  over = none;
+  left = sym left;
+  fewer = few;
+}
+
+-- an error is the same one, whatever else might have been answered
+pub same_error : {A B E : Type 0} (e f : E) → ◌≡◌ {A = Result A E} (Err e) (Err f) → ◌≡◌ {A = Result B E} (Err e) (Err f)
+same_error {E = E} e f is =
+    let same : e ≡ f = cc in
+    ap (λ (x : E). Err x) same
+
+-- all turns were made that may be, before or behind the last client
+pub makes_all : (config : Meaning) (clients ordered due left : List ClientLine) (plans : List Plan) (most : ℕ) (a b : RunNow) → HasCourse plans [] a → ComeInOrder clients ordered → ordered ≡ reverse due
+    → ComesAll a due b left → b.worker.config ≡ config → b.turns ≡ most → MakesAll config clients plans most
+makes_all config clients ordered due left plans most a b begun order is comes config_is all = record {
+  run = b;
+  replays = record { config_is = config_is; ordered = ordered; in_order = order; due = left; come = comes plans ordered ([], is, begun) };
+  all = all;
+}

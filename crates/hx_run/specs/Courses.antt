@@ -1,6 +1,7 @@
 -- What holds of all that was told in a replay so far, and that its calls keep it.
-use Rattle.std.specs.Prelude.{◌≡◌, List, [], ◌∷◌, ◌++◌, map, reverse}
+use Rattle.std.specs.Prelude.{◌≡◌, ℕ, ◌<◌, Bool, List, [], ◌∷◌, ◌++◌, map, reverse}
 use Rattle.hx_base.specs.declared.plan.Plan.{Plan}
+use Rattle.hx_config.specs.Meaning.{Meaning}
 use Rattle.hx_course.specs.Courses.{KeepsCourse}
 use Rattle.hx_course.specs.Endings.{IsEmptied}
 use Rattle.hx_course.specs.Graves.{Grave}
@@ -12,17 +13,22 @@ use Rattle.hx_script_parts.specs.declared.script.ClientLine.{ClientLine}
 use Rattle.hx_worker.specs.Workers.{WorkerNow}
 use Rattle.hx_run.specs.Dues.{ComeInOrder}
 use Rattle.hx_run.specs.Runs.{RunNow}
+use Rattle.hx_run.specs.Turns.{Makes, counted}
 
 -- its records and the links that its net buried, whoever's they were, are those of a course of its worker's calls, in which each
--- link followed its plan: the connections these plans, and the clients that came those
+-- link followed its plan: the connections these plans, and the clients that came those; and its turns are the steps that moved in it
 abbrev pub HasCourse : List Plan → List Plan → RunNow → Type 0
 HasCourse plans came r =
     (graves : List Grave) × KeepsCourse r.worker r.net.state r.records graves
-    × KeepsPlans came plans r.worker r.net.state graves
+    × KeepsPlans came plans r.worker r.net.state graves × Makes plans r.worker r.net.state r.turns
 
 -- a call keeps that, and no client comes in it
 abbrev pub KeepsOn : RunNow → RunNow → Type 0
 KeepsOn a b = (plans came : List Plan) → HasCourse plans came a → HasCourse plans came b
+
+-- a step keeps it, once it is counted where it moved
+abbrev pub StepsOn : Bool → RunNow → RunNow → Type 0
+StepsOn moved a b = (plans came : List Plan) → HasCourse plans came a → HasCourse plans came (counted moved b)
 
 -- a call keeps it, and the client of that plan comes
 abbrev pub ComesOn : Plan → RunNow → RunNow → Type 0
@@ -41,6 +47,30 @@ HasCome plans ordered due r =
 abbrev pub ComesAll : RunNow → List ClientLine → RunNow → List ClientLine → Type 0
 ComesAll a due b left =
     (plans : List Plan) (ordered : List ClientLine) → HasCome plans ordered due a → HasCome plans ordered left b
+
+-- a replay of a script came to this
+pub record Replays (config : Meaning) (clients : List ClientLine) (plans : List Plan) (r : RunNow) : Type 0 where
+  pub config_is : r.worker.config ≡ config
+  -- the clients as they come, and those that are due
+  pub ordered : List ClientLine
+  pub in_order : ComeInOrder clients ordered
+  pub due : List ClientLine
+  pub come : HasCome plans ordered due r
+
+-- a replay of a script made so many turns, and went on no further
+pub record MakesAll (config : Meaning) (clients : List ClientLine) (plans : List Plan) (turns : ℕ) : Type 0 where
+  pub run : RunNow
+  pub replays : Replays config clients plans run
+  pub all : run.turns ≡ turns
+
+-- a whole replay of a script, each of whose clients came, made fewer turns; it left this net, and no session
+pub record MakesFewer (config : Meaning) (clients : List ClientLine) (plans : List Plan) (turns : ℕ) (net : NetState) : Type 0 where
+  pub run : RunNow
+  pub replays : Replays config clients plans run
+  pub whole : replays.due ≡ []
+  pub over : run.worker.sessions ≡ []
+  pub left : run.net.state ≡ net
+  pub fewer : run.turns < turns
 
 -- what was told and the links that the net buried are those of a course of a worker at which nothing is left: no session is
 -- there, and no connection rests

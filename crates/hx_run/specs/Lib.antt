@@ -7,4 +7,5 @@ pub mod Dues
 pub mod Overs
 pub mod Rooms
 pub mod Runs
+pub mod Turns
 pub mod Courses

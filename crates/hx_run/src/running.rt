@@ -1,5 +1,5 @@
 //! A replay under way.
-ghost use Rattle.std.specs.Prelude.{◌≡◌, ◌+◌, ◌<◌, ◌≤◌, ◌++◌, [], true, false, ℕ, All, IfOk, OnOk, IsSome, Ok, Err, length, map};
+ghost use Rattle.std.specs.Prelude.{◌≡◌, ◌+◌, ◌^◌, ◌<◌, ◌≤◌, ◌++◌, [], true, false, ℕ, All, IfOk, OnOk, IsSome, Ok, Err, length, map};
 ghost use Rattle.hx_config.specs.Limits.{all_servers};
 ghost use Rattle.hx_config.specs.Views.{meaning};
 ghost use Rattle.hx_caretaker.specs.Orders.{ordered_server};
@@ -12,7 +12,7 @@ ghost use Rattle.hx_pool.specs.Journal.{Journal, journal_from};
 ghost use Rattle.hx_run.specs.Overs.{HasRoom, ClosedBelow};
 ghost use Rattle.hx_run.specs.Rooms.{RoomBelow};
 ghost use Rattle.hx_run.specs.Runs.{GoesOn, IsRun, IsWorking, IsRoomier, CarriedOut, Ticked, StopsFirst};
-ghost use Rattle.hx_run.specs.Courses.{ComesOn, HasCourse, KeepsOn};
+ghost use Rattle.hx_run.specs.Courses.{ComesOn, HasCourse, KeepsOn, StepsOn};
 ghost use Rattle.hx_course.specs.Lines.{lines_of};
 ghost use Rattle.hx_run.specs.declared.running.Halt.TheVariants as halt;
 
@@ -185,6 +185,7 @@ impl<'a> Running<'a> {
     pub fn come(&mut self, line: ClientLine, now: Millis) -> Result<(), NoMemory>
         requires client { is_client_of self.old.worker.config line ≡ true }
         ensures goes { GoesOn self.old self.new }
+        ensures turns { self.new.turns ≡ self.old.turns }
         ensures course { OnOk result (ComesOn line.plan self.old self.new) }
     {
         let mut link = MemoryLink::new(line.plan);
@@ -209,6 +210,7 @@ impl<'a> Running<'a> {
         requires there { (ordered_server what).0 < length (all_servers self.old.worker.config.backs) }
         ensures goes { GoesOn self.old self.new }
         ensures sessions { self.new.worker.sessions ≡ self.old.worker.sessions }
+        ensures turns { self.new.turns ≡ self.old.turns }
         ensures carries { OnOk result (CarriedOut what self.old.worker.seats self.new.worker.seats) }
         ensures course { OnOk result (KeepsOn self.old self.new) }
         ensures run { IsRun self.old × IsRun self.new }
@@ -225,6 +227,7 @@ impl<'a> Running<'a> {
     pub fn tick(&mut self, now: Millis) -> Result<(), NoMemory>
         ensures goes { GoesOn self.old self.new }
         ensures sessions { self.new.worker.sessions ≡ self.old.worker.sessions }
+        ensures turns { self.new.turns ≡ self.old.turns }
         ensures ticks { OnOk result (Ticked now self.old.worker.seats self.new.worker.seats) }
         ensures course { OnOk result (KeepsOn self.old self.new) }
     {
@@ -233,14 +236,30 @@ impl<'a> Running<'a> {
         Ok(())
     }
 
-    /// A step of a session, and what it tells.
+    /// A turn is left.
+    ///
+    /// # Errors
+    /// As many turns were made as may be.
+    pub fn may_turn(&self) -> Result<(), Halt>
+        ensures left { OnOk result (self.now.turns < self.now.most) }
+        ensures fits { OnOk result (self.now.turns + 1 < 2 ^ 64) }
+        ensures within { self.now.turns ≤ self.now.most }
+        ensures overrun { result ≡ Err halt.Overrun → self.now.turns ≡ self.now.most }
+    {
+        if self.turns >= self.most {
+            return Err(Halt::Overrun);
+        }
+        Ok(())
+    }
+
+    /// A step of a session, and what it tells. It isn't counted yet.
     fn step(&mut self, n: SessionNo, now: Millis) -> Result<Step, NoMemory>
         requires there { IsSome (session_of self.old.worker.sessions n.0) }
         ensures goes { GoesOn self.old self.new }
         ensures turns { self.new.turns ≡ self.old.turns }
         ensures stays { IfOk result (λ r. (r.waits ≡ Ended → ⊥) → IsSome (session_of self.new.worker.sessions n.0)) }
         ensures told { IfOk result (λ r. self.new.records ≡ self.old.records ++ lines_of r.served r.left) }
-        ensures course { OnOk result (KeepsOn self.old self.new) }
+        ensures course { IfOk result (λ r. StepsOn r.moved self.old self.new) }
     {
         make_room(&mut self.worker, STEP_MARKS)?;
         let step = self.worker.step(&mut self.net, n, now);
@@ -251,36 +270,42 @@ impl<'a> Running<'a> {
     /// A turn of a session, if one is left. It answers whether the session goes on: it moved, and hasn't ended.
     ///
     /// # Errors
-    /// As many turns were made as may be, or for want of memory.
+    /// As many turns were made as may be, now or before; or for want of memory.
     fn turn(&mut self, n: SessionNo, now: Millis) -> Result<bool, Halt>
         requires there { IsSome (session_of self.old.worker.sessions n.0) }
         ensures goes { GoesOn self.old self.new }
         ensures moved { result ≡ Ok true → self.old.turns < self.new.turns }
         ensures within { self.new.turns ≤ self.new.most }
+        ensures left { OnOk result (self.new.turns < self.new.most) }
         ensures overrun { result ≡ Err halt.Overrun → self.new.turns ≡ self.new.most }
         ensures there { result ≡ Ok true → IsSome (session_of self.new.worker.sessions n.0) }
+        // what was told and buried, and how many turns were made
         ensures course { OnOk result (KeepsOn self.old self.new) }
+        ensures stops { result ≡ Err halt.Overrun → KeepsOn self.old self.new }
     {
-        if self.turns >= self.most {
-            return Err(Halt::Overrun);
-        }
+        self.may_turn()?;
         let step = self.step(n, now)?;
         if step.moved {
             self.turns += 1;
+            self.may_turn()?;
+            Ok(!is_over(step))
+        } else {
+            Ok(false)
         }
-        Ok(step.moved && !is_over(step))
     }
 
     /// A session makes its steps until one doesn't move, or it has ended.
     ///
     /// # Errors
-    /// As many turns were made as may be, or for want of memory.
+    /// As many turns were made as may be, now or before; or for want of memory.
     fn go_on(&mut self, n: SessionNo, now: Millis) -> Result<(), Halt>
         requires there { IsSome (session_of self.old.worker.sessions n.0) }
         ensures goes { GoesOn self.old self.new }
         ensures within { self.new.turns ≤ self.new.most }
+        ensures left { OnOk result (self.new.turns < self.new.most) }
         ensures overrun { result ≡ Err halt.Overrun → self.new.turns ≡ self.new.most }
         ensures course { OnOk result (KeepsOn self.old self.new) }
+        ensures stops { result ≡ Err halt.Overrun → KeepsOn self.old self.new }
     {
         while self.turn(n, now)? {}
         Ok(())
@@ -289,7 +314,7 @@ impl<'a> Running<'a> {
     /// Each session goes on, by rising number. It answers whether one moved.
     ///
     /// # Errors
-    /// As many turns were made as may be, or for want of memory.
+    /// As many turns were made as may be, now or before, where a session is there; or for want of memory.
     #[tactic(auto, using(crate::proofs::Going::next_there, crate::proofs::Going::next_over))]
     fn round(&mut self, now: Millis) -> Result<bool, Halt>
         ensures goes { GoesOn self.old self.new }
@@ -297,8 +322,11 @@ impl<'a> Running<'a> {
         ensures last { OnOk result (self.old.turns + self.new.last ≡ self.new.turns) }
         ensures still { result ≡ Ok false → self.new.last ≡ 0 }
         ensures within { self.new.turns ≤ self.new.most }
+        ensures left { self.old.turns < self.old.most → OnOk result (self.new.turns < self.new.most) }
         ensures overrun { result ≡ Err halt.Overrun → self.new.turns ≡ self.new.most }
+        // what was told and buried, and how many turns were made
         ensures course { OnOk result (KeepsOn self.old self.new) }
+        ensures stops { result ≡ Err halt.Overrun → KeepsOn self.old self.new }
     {
         let before = self.turns;
         let mut after = SessionNo(0);
@@ -313,12 +341,14 @@ impl<'a> Running<'a> {
     /// Rounds, until nothing moves in one.
     ///
     /// # Errors
-    /// As many turns were made as may be, or for want of memory.
+    /// As many turns were made as may be, right behind the last of them; or before, where a session is there. Or for want of memory.
     pub fn rounds(&mut self, now: Millis) -> Result<(), Halt>
         ensures goes { GoesOn self.old self.new }
+        ensures left { self.old.turns < self.old.most → OnOk result (self.new.turns < self.new.most) }
         ensures overrun { result ≡ Err halt.Overrun → self.new.turns ≡ self.new.most }
         ensures still { OnOk result (self.new.last ≡ 0) }
         ensures course { OnOk result (KeepsOn self.old self.new) }
+        ensures stops { result ≡ Err halt.Overrun → KeepsOn self.old self.new }
     {
         while self.round(now)? {}
         Ok(())
@@ -330,6 +360,7 @@ impl<'a> Running<'a> {
         ensures fewer { result ≡ Ok true → length self.new.worker.sessions < length self.old.worker.sessions }
         ensures none { result ≡ Ok false → self.new.worker.sessions ≡ [] }
         ensures stops { result ≡ Ok true → StopsFirst self.old self.new }
+        ensures turns { self.new.turns ≡ self.old.turns }
         ensures course { OnOk result (KeepsOn self.old self.new) }
     {
         make_room(&mut self.worker, STEP_MARKS)?;
@@ -349,6 +380,7 @@ impl<'a> Running<'a> {
     pub fn stop_all(&mut self) -> Result<(), NoMemory>
         ensures goes { GoesOn self.old self.new }
         ensures gone { OnOk result (self.new.worker.sessions ≡ []) }
+        ensures turns { self.new.turns ≡ self.old.turns }
         ensures course { OnOk result (KeepsOn self.old self.new) }
     {
         while self.stop_one()? {}
@@ -361,6 +393,7 @@ impl<'a> Running<'a> {
         requires empty { self.old.worker.sessions ≡ [] }
         ensures goes { GoesOn self.old self.new }
         ensures empty { self.new.worker.sessions ≡ [] }
+        ensures turns { self.new.turns ≡ self.old.turns }
         ensures closed { (k : ℕ) → k ≡ server.0 → ClosedBelow k self.old.worker.seats
             → OnOk result (ClosedBelow (k + 1) self.new.worker.seats) }
         ensures course { OnOk result (KeepsOn self.old self.new) }
@@ -386,6 +419,7 @@ impl<'a> Running<'a> {
         requires empty { self.old.worker.sessions ≡ [] }
         ensures goes { GoesOn self.old self.new }
         ensures empty { self.new.worker.sessions ≡ [] }
+        ensures turns { self.new.turns ≡ self.old.turns }
         ensures closed { OnOk result (ClosedBelow (length self.new.worker.seats) self.new.worker.seats) }
         ensures course { OnOk result (KeepsOn self.old self.new) }
     {

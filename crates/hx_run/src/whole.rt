@@ -1,11 +1,12 @@
 //! The replay of a whole script, by its moments.
-ghost use Rattle.std.specs.Prelude.{◌≡◌, [], false, IfOk, OnOk};
+ghost use Rattle.std.specs.Prelude.{◌≡◌, ◌<◌, [], false, Err, IfOk, OnOk};
 ghost use Rattle.hx_config.specs.Limits.{all_servers};
 ghost use Rattle.hx_config.specs.Views.{meaning};
 ghost use Rattle.hx_run.specs.Dues.{AreDue};
 ghost use Rattle.hx_run.specs.Overs.{AreOver};
-ghost use Rattle.hx_run.specs.Courses.{ComesAll, EndsCourse, EndsPlanned, KeepsOn};
+ghost use Rattle.hx_run.specs.Courses.{ComesAll, EndsCourse, EndsPlanned, KeepsOn, MakesAll, MakesFewer};
 ghost use Rattle.hx_run.specs.Runs.{GoesOn};
+ghost use Rattle.hx_run.specs.declared.running.Halt.TheVariants as halt;
 
 use crate::due::{Due, clients_due, orders_due};
 use crate::ran::Ran;
@@ -20,6 +21,7 @@ fn run_orders(running: &mut Running<'_>, due: &mut Due, now: Millis) -> Result<(
     ensures goes { GoesOn running.old running.new }
     ensures due { AreDue running.old.worker.config due.new }
     ensures clients { due.new.clients.items ≡ due.old.clients.items }
+    ensures turns { running.new.turns ≡ running.old.turns }
     ensures course { OnOk result (KeepsOn running.old running.new) }
 {
     while let Some(what) = due.order(now) {
@@ -33,6 +35,7 @@ fn run_clients(running: &mut Running<'_>, due: &mut Due, now: Millis) -> Result<
     requires due { AreDue running.old.worker.config due.old }
     ensures goes { GoesOn running.old running.new }
     ensures due { AreDue running.old.worker.config due.new }
+    ensures turns { running.new.turns ≡ running.old.turns }
     ensures course { OnOk result (ComesAll running.old due.old.clients.items running.new due.new.clients.items) }
 {
     while let Some(line) = due.client(now) {
@@ -46,7 +49,12 @@ fn run_moment(running: &mut Running<'_>, due: &mut Due, now: Millis) -> Result<(
     requires due { AreDue running.old.worker.config due.old }
     ensures goes { GoesOn running.old running.new }
     ensures due { AreDue running.old.worker.config due.new }
+    ensures left { running.old.turns < running.old.most → OnOk result (running.new.turns < running.new.most) }
+    ensures overrun { result ≡ Err halt.Overrun → running.new.turns ≡ running.new.most }
+    // what was told and buried, whose clients came, and how many turns were made
     ensures course { OnOk result (ComesAll running.old due.old.clients.items running.new due.new.clients.items) }
+    ensures stops { result ≡ Err halt.Overrun
+        → ComesAll running.old due.old.clients.items running.new due.new.clients.items }
 {
     run_orders(running, due, now)?;
     run_clients(running, due, now)?;
@@ -54,12 +62,18 @@ fn run_moment(running: &mut Running<'_>, due: &mut Due, now: Millis) -> Result<(
     running.rounds(now)
 }
 
-/// The moments in order.
+/// The moments in order. A replay that may make no turn overruns before the first one.
 fn run_moments(running: &mut Running<'_>, due: &mut Due, moments: &[Millis]) -> Result<(), Halt>
     requires due { AreDue running.old.worker.config due.old }
     ensures goes { GoesOn running.old running.new }
+    ensures left { OnOk result (running.new.turns < running.new.most) }
+    ensures overrun { result ≡ Err halt.Overrun → running.new.turns ≡ running.new.most }
+    // what was told and buried, whose clients came, and how many turns were made
     ensures course { OnOk result (ComesAll running.old due.old.clients.items running.new due.new.clients.items) }
+    ensures stops { result ≡ Err halt.Overrun
+        → ComesAll running.old due.old.clients.items running.new due.new.clients.items }
 {
+    running.may_turn()?;
     for now in moments {
         run_moment(running, due, *now)?;
     }
@@ -81,16 +95,20 @@ fn all_came(due: &Due) -> Result<(), NoMemory>
 }
 
 /// Replays a script of one thread: its moments in order, and behind the last one each session is stopped and each server is
-/// drained. So many turns may be made.
+/// drained. Fewer turns than `most` may be made.
 ///
 /// # Errors
-/// As many turns were made as may be and a session is there that may go on, or for want of memory.
+/// `Overrun` right behind the turn that makes it `most` turns, whatever would be left to do; where `most` is 0, before the first
+/// moment. Or for want of memory.
 pub fn run_script(alloc: Global, script: Script, most: u64) -> Result<Ran, Halt>
     ensures config { IfOk result (λ ran. ran.config ≡ script.config) }
     ensures over { IfOk result (λ ran. AreOver (all_servers script.config.backs) ran.seats) }
     ensures told { IfOk result (λ ran. ran.net.starved ≡ false) }
     ensures course { IfOk result (λ ran. EndsCourse ran.records ran.net.state) }
     ensures plans { IfOk result (λ ran. EndsPlanned script.clients script.plans ran.records ran.net.state) }
+    // the turns: fewer, or just as many
+    ensures within { IfOk result (λ ran. MakesFewer (meaning script.config) script.clients script.plans most ran.net.state) }
+    ensures overrun { result ≡ Err halt.Overrun → MakesAll (meaning script.config) script.clients script.plans most }
 {
     let Script {
         config,

@@ -1,4 +1,4 @@
-use Rattle.std.proofs.Common.{◌≡◌, List, sym, subst}
+use Rattle.std.proofs.Common.{List, sym, subst, ◌∙◌}
 use Rattle.hx_script_parts.specs.declared.script.ClientLine.{ClientLine}
 use Rattle.hx_run.specs.Courses.{ComesAll}
 use Rattle.hx_run.proofs.Coursing.{comes_both, comes_next}
@@ -11,6 +11,7 @@ loop-line-preserved c = (
   c.client.ensures.due c.args.running.now.worker.config c.loop-line.invariant.1,
   comes_both c.args.running.now c.loop-line.running c.come.new.self c.args.due.now.clients.items c.loop-line.due.clients.items c.client.new.self.clients.items c.loop-line.invariant.2
       (comes_next c.loop-line.running c.come.new.self c.loop-line.due.clients.items c.client.new.self.clients.items c.in-Some.line c.in-Some.ensures.next c.in_ok-come.ensures.course),
+  c.come.ensures.turns ∙ c.loop-line.invariant.3,
 )
 
 pub returns-in_err-come-clause-due : goal.returns-in_err-come-clause-due

@@ -16,6 +16,7 @@ loop-what-preserved c = (
   c.order.ensures.due c.args.running.now.worker.config c.loop-what.invariant.1,
   λ plans came h. c.in_ok-order.ensures.course plans came (c.loop-what.invariant.2 plans came h),
   c.order.ensures.clients ∙ c.loop-what.invariant.3,
+  c.order-in-Some.ensures.turns ∙ c.loop-what.invariant.4,
 )
 
 pub returns-in_err-order-clause-due : goal.returns-in_err-order-clause-due

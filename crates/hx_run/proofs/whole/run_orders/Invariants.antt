@@ -5,7 +5,9 @@ use Rattle.hx_run.specs.Runs.{GoesOn}
 use Rattle.hx_run.proofs.whole.run_orders.Given as goal
 
 abbrev pub invariant-loop-what : goal.invariant-loop-what
-invariant-loop-what l = GoesOn l.fn.running l.running × AreDue l.fn.running.worker.config l.due × KeepsOn l.fn.running l.running × (l.due.clients.items ≡ l.fn.due.clients.items)
+invariant-loop-what l =
+    GoesOn l.fn.running l.running × AreDue l.fn.running.worker.config l.due × KeepsOn l.fn.running l.running
+    × (l.due.clients.items ≡ l.fn.due.clients.items) × (l.running.turns ≡ l.fn.running.turns)
 
 abbrev pub decreases-loop-what : goal.decreases-loop-what
 decreases-loop-what l = length l.due.orders.items

@@ -1,4 +1,5 @@
-use Rattle.std.proofs.Common.{◌≡◌, List, [], All, map, refl, sym, ap, subst, ◌∙◌}
+use Rattle.std.proofs.Common.{◌≡◌, ◌<◌, List, [], All, map, refl, sym, ap, subst, arith, ◌∙◌}
+use Rattle.std.proofs.lemmas.Result.{err_from_is_err_and}
 use Rattle.std.specs.Prelude.{reverse}
 use Rattle.hx_base.specs.declared.plan.Plan.{Plan}
 use Rattle.hx_config.specs.Limits.{all_servers}
@@ -12,7 +13,7 @@ use Rattle.hx_link.specs.Nets.{NetState}
 use Rattle.hx_record.specs.declared.served.Told.{Told}
 use Rattle.hx_script_parts.specs.declared.script.ClientLine.{ClientLine}
 use Rattle.hx_run.proofs.Coursing.{all_come}
-use Rattle.hx_run.proofs.Ending.{ends_course, ends_planned}
+use Rattle.hx_run.proofs.Ending.{ends_course, ends_planned, makes_all, makes_fewer, same_error}
 use Rattle.hx_run.proofs.Working.{all_plans, all_due, run_over}
 use Rattle.hx_run.specs.Courses.{EndsCourse, EndsPlanned, HasCourse, plan_of}
 use Rattle.hx_run.proofs.whole.run_script.Goals as goal
@@ -58,7 +59,7 @@ pub returns-clause-course : goal.returns-clause-course
 returns-clause-course c =
     let end = c.drain_all.new.self in
     let ends : EndsCourse end.records end.net.state =
-    ends_course c.args.script.plans (map plan_of (ordered c)) end.worker end.net.state end.records c.in_ok-over.ensures.run.working c.in_ok-drain_all.ensures.empty c.in_ok-drain_all.ensures.closed (followed c) in
+    ends_course c.args.script.plans (map plan_of (ordered c)) end.worker end.net.state end.records end.turns c.in_ok-over.ensures.run.working c.in_ok-drain_all.ensures.empty c.in_ok-drain_all.ensures.closed (followed c) in
     let over = c.in_ok-over.ensures in
     let net : c.in_ok-over.over.net.state ≡ end.net.state = ap (λ (n : MemoryNetNow). n.state) over.net.0 in
     subst (λ (l : List Told). EndsCourse l c.in_ok-over.over.net.state) (sym (c.from_vec.ensures ∙ over.records))
@@ -70,8 +71,31 @@ returns-clause-plans c =
     let clients = c.args.script.clients in
     let plans = c.args.script.plans in
     let ends : EndsPlanned clients plans end.records end.net.state =
-    ends_planned clients (ordered c) plans end.worker end.net.state end.records c.in_ok-over.ensures.run.working c.in_ok-drain_all.ensures.empty c.in_ok-drain_all.ensures.closed c.in_ok-clients_due.ensures.in_order (followed c) in
+    ends_planned clients (ordered c) plans end.worker end.net.state end.records end.turns c.in_ok-over.ensures.run.working c.in_ok-drain_all.ensures.empty c.in_ok-drain_all.ensures.closed c.in_ok-clients_due.ensures.in_order (followed c) in
     let over = c.in_ok-over.ensures in
     let net : c.in_ok-over.over.net.state ≡ end.net.state = ap (λ (n : MemoryNetNow). n.state) over.net.0 in
     subst (λ (l : List Told). EndsPlanned clients plans l c.in_ok-over.over.net.state) (sym (c.from_vec.ensures ∙ over.records))
     (subst (λ (n : NetState). EndsPlanned clients plans end.records n) (sym net) ends)
+
+pub returns-clause-within : goal.returns-clause-within
+returns-clause-within c =
+    let end = c.drain_all.new.self in
+    let script = c.args.script in
+    let config : end.worker.config ≡ meaning script.config =
+    c.in_ok-drain_all.ensures.goes.config ∙ c.in_ok-stop_all.ensures.goes.config ∙ c.in_ok-run_moments.ensures.goes.config ∙ c.in_ok-running.ensures.config in
+    let few : end.turns < c.args.most =
+    omega (arith, c.in_ok-run_moments.ensures.left, c.in_ok-run_moments.ensures.goes.most, c.in_ok-running.ensures.empty.3, c.in_ok-stop_all.ensures.turns, c.in_ok-drain_all.ensures.turns) in
+    makes_fewer (meaning script.config) script.clients (ordered c) script.plans c.args.most c.in_ok-over.over.net.state end config c.in_ok-clients_due.ensures.in_order (followed c) c.in_ok-drain_all.ensures.empty
+    (ap (λ (n : MemoryNetNow). n.state) c.in_ok-over.ensures.net.0) few
+
+pub returns-in_err-run_moments-clause-overrun : goal.returns-in_err-run_moments-clause-overrun
+returns-in_err-run_moments-clause-overrun c =
+    let script = c.args.script in
+    let begun : HasCourse script.plans [] c.in_ok-running.running = subst (λ (l : List Plan). HasCourse l [] c.in_ok-running.running) c.into_vec-plans.ensures c.in_ok-running.ensures.course in
+    let end = c.run_moments.new.running in
+    let goes = c.run_moments.ensures.goes in
+    let p = err_from_is_err_and c.from_residual-in_err-run_moments.result c.from_residual-in_err-run_moments.ensures.1 in
+    rw (p.1, p.2) (λ is.
+    makes_all (meaning script.config) script.clients (reverse c.in_ok-clients_due.field-0.items) c.in_ok-clients_due.field-0.items c.run_moments.new.due.clients.items script.plans c.args.most c.in_ok-running.running end begun
+    c.in_ok-clients_due.ensures.in_order refl (c.in_err-run_moments.ensures.stops (same_error _ _ is)) (goes.config ∙ c.in_ok-running.ensures.config)
+    (c.in_err-run_moments.ensures.overrun (same_error _ _ is) ∙ goes.most ∙ c.in_ok-running.ensures.empty.3))

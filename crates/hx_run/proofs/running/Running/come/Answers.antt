@@ -9,4 +9,4 @@ returns-in-Ok-clause-course c = λ plans came h.
     let k = attached_so _ _ _ _ _ c.attach.ensures.attaches in
     let dial = k.1 ∙ ap (λ (m : MemoryLinkNow). m.state.dial) c.new-link.ensures.begins in
     let plan = k.2 ∙ ap (λ (m : MemoryLinkNow). m.state.plan) c.new-link.ensures.begins in
-    admitted_course plans came _ _ _ _ _ _ _ _ _ _ k.0 dial plan c.in-Ok.ensures.admits (subst (HasCourse plans came) (sym c.self.view_is) h)
+    admitted_course plans came _ _ _ _ _ _ _ _ _ _ _ k.0 dial plan c.in-Ok.ensures.admits (subst (HasCourse plans came) (sym c.self.view_is) h)

@@ -1,8 +1,8 @@
-use Rattle.std.proofs.Common.{◌≡◌, List, [], ap, sym, subst, arith}
+use Rattle.std.proofs.Common.{List, [], ap, sym, subst, arith}
 use Rattle.hx_config.specs.Views.{meaning}
 use Rattle.hx_link.specs.MemoryNets.{MemoryNetNow}
 use Rattle.hx_record.specs.declared.served.Told.{Told}
-use Rattle.hx_worker.specs.Workers.{WorkerNow, HasSeats}
+use Rattle.hx_worker.specs.Workers.{WorkerNow}
 use Rattle.hx_run.specs.Runs.{IsWorking}
 use Rattle.hx_run.proofs.Beginning.{begin_seats, begin_working}
 use Rattle.hx_run.proofs.Coursing.{Has}
@@ -23,6 +23,6 @@ pub returns-clause-course : goal.returns-clause-course
 returns-clause-course c =
     let plans = c.args.plans.items in
     let state = c.in_ok-net.net.state in
-    subst (λ (records : List Told). Has plans [] c.in_ok-worker.worker state records) (sym c.new-3.ensures.items)
-    (subst (λ (w : WorkerNow). Has plans [] w state []) (sym c.in_ok-worker.ensures.begins)
+    subst (λ (records : List Told). Has plans [] c.in_ok-worker.worker state records 0) (sym c.new-3.ensures.items)
+    (subst (λ (w : WorkerNow). Has plans [] w state [] 0) (sym c.in_ok-worker.ensures.begins)
     (begins_course (meaning c.args.config.now) _ _ plans c.args.room c.in_ok-net.net c.args.config.now.within.numbered c.in_ok-seats.ensures.begin c.in_ok-net.ensures.begins))

@@ -18,4 +18,4 @@ returns-clause-stays c = λ no. steps_there _ _ _ _ _ _ c.step-step.ensures.step
 
 pub returns-clause-course : goal.returns-clause-course
 returns-clause-course c = λ plans came h.
-    stepped_course plans came _ _ _ _ _ _ _ _ _ c.make_room.ensures.same c.step-step.ensures.steps c.make_room.ensures.working.seats c.step-step.ensures.seats c.in_ok-tell.ensures (subst (HasCourse plans came) (sym c.self.view_is) h)
+    stepped_course plans came _ _ _ _ _ _ _ _ _ _ _ c.make_room.ensures.same c.step-step.ensures.steps c.step-step.ensures.timely c.make_room.ensures.working.seats c.step-step.ensures.seats c.in_ok-tell.ensures (subst (HasCourse plans came) (sym c.self.view_is) h)

@@ -14,8 +14,8 @@ invariant_of-self-in-Some c =
 
 pub returns-in_ok-tell-in-Some-clause-course : goal.returns-in_ok-tell-in-Some-clause-course
 returns-in_ok-tell-in-Some-clause-course c = λ plans came h.
-    stopped_course plans came _ _ _ _ _ _ _ _ _ c.make_room.ensures.same c.stop_next.ensures.stops c.in-Some.is c.make_room.ensures.working.seats c.in_ok-tell-in-Some.ensures (subst (HasCourse plans came) (sym c.self.view_is) h)
+    stopped_course plans came _ _ _ _ _ _ _ _ _ _ c.make_room.ensures.same c.stop_next.ensures.stops c.in-Some.is c.make_room.ensures.working.seats c.in_ok-tell-in-Some.ensures (subst (HasCourse plans came) (sym c.self.view_is) h)
 
 pub returns-in-None-clause-course : goal.returns-in-None-clause-course
 returns-in-None-clause-course c = λ plans came h.
-    none_course plans came _ _ _ _ _ _ _ c.make_room.ensures.same c.stop_next.ensures.stops c.in-None.is (subst (HasCourse plans came) (sym c.self.view_is) h)
+    none_course plans came _ _ _ _ _ _ _ _ c.make_room.ensures.same c.stop_next.ensures.stops c.in-None.is (subst (HasCourse plans came) (sym c.self.view_is) h)

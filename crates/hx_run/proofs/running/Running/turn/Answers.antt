@@ -1,20 +1,20 @@
-use Rattle.std.proofs.Common.{sym, subst}
+use Rattle.std.proofs.Common.{true, sym, subst}
 use Rattle.hx_run.specs.Courses.{HasCourse}
+use Rattle.hx_run.specs.Runs.{RunNow}
+use Rattle.hx_run.specs.Turns.{counted}
+use Rattle.hx_run.proofs.Coursing.{moved_on, still_on}
 use Rattle.hx_run.proofs.running.Running.turn.Goals as goal
-use Rattle.hx_run.proofs.running.Running.turn.Goals.{then-step, else-step}
 
-pub returns-then-step-2-clause-course : goal.returns-then-step-2-clause-course
-returns-then-step-2-clause-course c = λ plans came h.
-    let k = c.in_ok-step.ensures.course plans came h in
-    elim c.if-step.branch [
-      | then-step w ↦ subst (HasCourse plans came) (sym w.self-is) (subst (HasCourse plans came) (sym c.self-2.view_is) k)
-      | else-step w ↦ subst (HasCourse plans came) (sym w.self-is) k
-    ]
+pub returns-in_err-may_turn-2-clause-stops : goal.returns-in_err-may_turn-2-clause-stops
+returns-in_err-may_turn-2-clause-stops c = λ is plans came h.
+    subst (λ (r : RunNow). HasCourse plans came (counted true r)) (sym c.self.view_is)
+    (moved_on plans came c.in_ok-step.step.moved c.step.new.self c.if-step.true (c.in_ok-step.ensures.course plans came h))
 
-pub returns-else-step-2-clause-course : goal.returns-else-step-2-clause-course
-returns-else-step-2-clause-course c = λ plans came h.
-    let k = c.in_ok-step.ensures.course plans came h in
-    elim c.if-step.branch [
-      | then-step w ↦ subst (HasCourse plans came) (sym w.self-is) (subst (HasCourse plans came) (sym c.self-2.view_is) k)
-      | else-step w ↦ subst (HasCourse plans came) (sym w.self-is) k
-    ]
+pub returns-in_ok-may_turn-2-clause-course : goal.returns-in_ok-may_turn-2-clause-course
+returns-in_ok-may_turn-2-clause-course c = λ plans came h.
+    subst (λ (r : RunNow). HasCourse plans came (counted true r)) (sym c.self.view_is)
+    (moved_on plans came c.in_ok-step.step.moved c.step.new.self c.if-step.true (c.in_ok-step.ensures.course plans came h))
+
+pub returns-else-step-clause-course : goal.returns-else-step-clause-course
+returns-else-step-clause-course c = λ plans came h.
+    still_on plans came c.in_ok-step.step.moved c.step.new.self c.if-step.false (c.in_ok-step.ensures.course plans came h)
