@@ -30,3 +30,7 @@ three_of xs ys zs ws oa ob oc a b c e f e' f' e'' f'' long =
       ap (λ l. slice_get l 1) one ∙ front_is ys (c ∷ []) 1 b mid.0,
       last.0,
     )
+
+-- the one element that was popped of a list of one
+pub one_of : {A : Type 0} (xs ys : List A) (o : Option A) (a : A) → xs ≡ ys ++ option_to_list o → o ≡ Some a → length xs ≡ 1 → slice_get xs 0 ≡ Some a
+one_of xs ys o a e f long = (last_is xs ys a 0 (e ∙ ap (λ o. ys ++ option_to_list o) f) long).0

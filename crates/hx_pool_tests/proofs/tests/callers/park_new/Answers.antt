@@ -3,11 +3,11 @@ use Rattle.hx_pool.specs.declared.entries.Note.{Note}
 use Rattle.hx_pool.specs.Held.{Has}
 use Rattle.hx_pool.specs.SeatView.{About}
 use Rattle.hx_pool.proofs.Calls.{has_opened}
-use Rattle.hx_pool_tests.proofs.tests.boards.park_new.Goals as goal
+use Rattle.hx_pool_tests.proofs.tests.callers.park_new.Goals as goal
 
 pub park-requires : goal.park-requires
 park-requires g c =
-    let old = c.args.seat.now.history in
+    let old = g.S.HasHistory.history c.args.seat.now in
     let m = c.in-Ok.ensures.answer.1.makes in
     record {
       session = c.requires.session;
