@@ -1,7 +1,8 @@
 -- What a caller of the seat keeps: the seat's server, and where a quota stands.
-use Rattle.std.proofs.Common.{◌≡◌, Bool, sym, subst, arith, Option, Some, None, Ok, Err, ⊎_elim}
+use Rattle.std.proofs.Common.{◌≡◌, ◌≢◌, Bool, sym, ap, ◌∙◌, subst, arith, Option, Some, None, Ok, Err, ⊎_elim}
 use Rattle.std.specs.Prelude.{Result, MatchOption, MatchResult}
 use Rattle.hx_base.specs.declared.numbers.SessionNo.{SessionNo}
+use Rattle.hx_base.specs.declared.numbers.ConnId.{ConnId}
 use Rattle.hx_base.specs.declared.numbers.PlaceNo.{PlaceNo}
 use Rattle.hx_base.specs.Shown.{Shown}
 use Rattle.hx_pool.specs.declared.budget.Quota.{Quota}
@@ -10,12 +11,13 @@ use Rattle.hx_pool.specs.declared.refusals.NoPark.TheVariants.{Never, NoneKept, 
 use Rattle.hx_pool.specs.declared.refusals.NoneOver.{NoneOver}
 use Rattle.hx_pool.specs.declared.refusals.NoneOver.TheVariants.{NotAllowed, BelowLow, NoneSeen}
 use Rattle.hx_pool.specs.declared.refusals.Unparked.{Unparked}
-use Rattle.hx_pool.specs.SeatView.{About, History}
+use Rattle.hx_pool.specs.SeatView.{About, History, AreOfOneBoard}
 use Rattle.hx_pool.specs.Parking.{Parks, RefusesPark, FindsDraining, TakesBack}
 use Rattle.hx_pool.specs.Taking.{TakesOwn, TakesNoneOwn}
 use Rattle.hx_pool.specs.Takeover.{TakesOver, RefusesTakeover}
 use Rattle.hx_pool.specs.Drain.{DrainsOne, DrainsNone}
 use Rattle.hx_pool.specs.Purge.{StandsAt, PurgesOne, PurgesNone, EndsPurge}
+use Rattle.hx_pool.specs.Exchange.{Exchanges, GivesUp}
 
 refuses_about : (old new : History) (n : SessionNo) (v : Shown) (why : NoPark) → RefusesPark old new n v why → new.about ≡ old.about
 refuses_about old new n v Never r = r.1.makes.about
@@ -54,3 +56,17 @@ purge_stands shows old new q r None h s = ⊎_elim
     (λ u. subst (λ (a : About). StandsAt a r) (sym u.2.makes.about) (subst (λ (k : Quota). StandsAt old.about k) (sym u.1) s))
     (λ u. ended old new q r u.1)
     h
+
+pub exchange_about : (old new : History) (n : SessionNo) (o : Option ConnId) → MatchOption o (GivesUp old new n) (λ id. Exchanges old new n id) → new.about ≡ old.about
+exchange_about old new n (Some id) h = h.makes.about
+exchange_about old new n None h = ⊎_elim
+    (λ x. x.makes.makes.about)
+    (λ y. ⊎_elim
+    (λ x. x.closes.makes.about ∙ (refuses_about x.held x.refused n x.v x.why x.refuses ∙ x.opens.makes.about))
+    (λ x. x.takes.looks.makes.about ∙ (x.parks.makes.makes.about ∙ x.opens.makes.about))
+    y)
+    h
+
+-- a seat stays one of the board of another, whatever it does
+pub still_one : (old new other : History) → new.about ≡ old.about → AreOfOneBoard old other → AreOfOneBoard new other
+still_one old new other e o = record { board = ap (λ (a : About). a.board) e ∙ o.board; apart = subst (λ (a : About). a.thread.0 ≢ other.about.thread.0) (sym e) o.apart }

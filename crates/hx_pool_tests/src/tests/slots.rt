@@ -1,5 +1,6 @@
 //! What no clause says of whole seats at a board of words and slots: that their calls succeed, and the marks that come out.
 ghost use Rattle.std.specs.Prelude.{◌≡◌, IfOk};
+ghost use Rattle.hx_pool.specs.SeatView.{AreOfOneBoard};
 
 use crate::tests::callers::{
     Card, Cards, ONE, drain_one, drained, park_new, parked, purged, rules, takeovers_in_order,
@@ -28,6 +29,7 @@ fn seats_of<'a>(board: &'a mut Board<Card>, alloc: Global) -> Result<Three<'a>, 
     ensures a { IfOk result (λ s. s.a.history.about.server ≡ record { 0 = 0 }) }
     ensures b { IfOk result (λ s. s.b.history.about.server ≡ record { 0 = 0 }) }
     ensures c { IfOk result (λ s. s.c.history.about.server ≡ record { 0 = 0 }) }
+    ensures one { IfOk result (λ s. AreOfOneBoard s.a.history s.c.history) }
 {
     let mut seats = board.seats(alloc)?;
     let third = seats.pop().unwrap();
@@ -240,6 +242,18 @@ fn keep_busy<'a>(alloc: Global, seat: SlotSeat<'a, Card>) -> Journal<'a>
     journal
 }
 
+fn two_busy<'a, R: Threads + Sync>(
+    rt: &R,
+    alloc: Global,
+    b: SlotSeat<'a, Card>,
+    c: SlotSeat<'a, Card>,
+) -> (Journal<'a>, Journal<'a>)
+    requires b { b.history.about.server ≡ record { 0 = 0 } }
+    requires c { c.history.about.server ≡ record { 0 = 0 } }
+{
+    join(rt, move || keep_busy(alloc, b), move || keep_busy(alloc, c))
+}
+
 fn all_busy<'a, R: Threads + Sync>(
     rt: &R,
     alloc: Global,
@@ -253,7 +267,7 @@ fn all_busy<'a, R: Threads + Sync>(
     join(
         rt,
         move || keep_busy(alloc, a),
-        move || join(rt, move || keep_busy(alloc, b), move || keep_busy(alloc, c)),
+        move || two_busy(rt, alloc, b, c),
     )
 }
 
