@@ -242,18 +242,6 @@ fn keep_busy<'a>(alloc: Global, seat: SlotSeat<'a, Card>) -> Journal<'a>
     journal
 }
 
-fn two_busy<'a, R: Threads + Sync>(
-    rt: &R,
-    alloc: Global,
-    b: SlotSeat<'a, Card>,
-    c: SlotSeat<'a, Card>,
-) -> (Journal<'a>, Journal<'a>)
-    requires b { b.history.about.server ≡ record { 0 = 0 } }
-    requires c { c.history.about.server ≡ record { 0 = 0 } }
-{
-    join(rt, move || keep_busy(alloc, b), move || keep_busy(alloc, c))
-}
-
 fn all_busy<'a, R: Threads + Sync>(
     rt: &R,
     alloc: Global,
@@ -267,7 +255,10 @@ fn all_busy<'a, R: Threads + Sync>(
     join(
         rt,
         move || keep_busy(alloc, a),
-        move || two_busy(rt, alloc, b, c),
+        move ||
+            requires b { b.history.about.server ≡ record { 0 = 0 } }
+            requires c { c.history.about.server ≡ record { 0 = 0 } }
+        { join(rt, move || keep_busy(alloc, b), move || keep_busy(alloc, c)) },
     )
 }
 

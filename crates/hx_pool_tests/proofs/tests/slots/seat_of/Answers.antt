@@ -23,5 +23,5 @@ returns c =
     let all = c.in_ok-seats.ensures.seats in
     let first = one_of c.in_ok-seats.seats.items c.pop.new.self.items c.pop.result c.unwrap-seat.result c.pop.ensures.items c.unwrap-seat.ensures (all.count ∙ c.requires.terms.0) in
     IfOk-weaker _ _ (λ (s : SlotView). s.history.about.server ≡ record { 0 = 0 })
-        (λ s e. ap (λ (h : History). h.about.server) e ∙ (ap (λ (s : PlaceView). s.view.terms.server) (all.each 0 c.unwrap-seat.result first) ∙ c.requires.terms.1))
-        c.new.ensures.history
+    (λ s e. ap (λ (h : History). h.about.server) e ∙ (ap (λ (s : PlaceView). s.view.terms.server) (all.each 0 c.unwrap-seat.result first) ∙ c.requires.terms.1))
+    c.new.ensures.history
