@@ -1,4 +1,4 @@
-use Rattle.std.proofs.Common.{List, false, sym, ap, ◌∙◌, subst, refl}
+use Rattle.std.proofs.Common.{List, false, sym, ◌∙◌, subst, refl}
 use Rattle.hx_base.specs.declared.numbers.SessionNo.{SessionNo}
 use Rattle.hx_pool.specs.declared.entries.Note.{Note}
 use Rattle.hx_pool.specs.Held.{Has}

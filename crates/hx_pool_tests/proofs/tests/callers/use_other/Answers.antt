@@ -1,7 +1,6 @@
-use Rattle.std.proofs.Common.{◌∷◌, List, ap, ◌∙◌, sym, subst}
+use Rattle.std.proofs.Common.{◌∷◌, List, sym, subst}
 use Rattle.hx_pool.specs.declared.entries.Note.{Note}
 use Rattle.hx_pool.specs.Held.{Has}
-use Rattle.hx_pool.specs.SeatView.{About}
 use Rattle.hx_pool.specs.Takeover.{counted}
 use Rattle.hx_pool.proofs.Calls.{has_taken}
 use Rattle.hx_pool_tests.proofs.tests.callers.use_other.Goals as goal
