@@ -133,8 +133,8 @@ stepped t config hs hs' js js' ts ts' last ss ss' net mid net' n r s a x is buri
 
 -- what holds of its session before and behind it
 pub stepped_so : (t : ThreadNo) (config : Meaning) (hs hs' : List History) (js js' : List JournalRoom) (ts ts' : List ℕ) (last : ℕ) (ss ss' : List SessionNow) (net mid net' : NetState) (n : SessionNo) (r : Step) (s a : SessionNow)
-    (x : Stepped config n.0 ss s a (around_with hs ts net) (around_with hs' ts' mid) r) (is : ss' ≡ placed ss a) (buries : BuriesClient a.over a.client mid net') (journals : JournalsStay most_marks js js') (P : SessionNow → SessionNow → Type 0)
-    → P s a → P (stepped t config hs hs' js js' ts ts' last ss ss' net mid net' n r s a x is buries journals).session (stepped t config hs hs' js js' ts ts' last ss ss' net mid net' n r s a x is buries journals).after
+    (x : Stepped config n.0 ss s a (around_with hs ts net) (around_with hs' ts' mid) r) (is : ss' ≡ placed ss a) (buries : BuriesClient a.over a.client mid net') (journals : JournalsStay most_marks js js') (P : SessionNow → SessionNow → NetState → Type 0)
+    → P s a mid → P (stepped t config hs hs' js js' ts ts' last ss ss' net mid net' n r s a x is buries journals).session (stepped t config hs hs' js js' ts ts' last ss ss' net mid net' n r s a x is buries journals).after (stepped t config hs hs' js js' ts ts' last ss ss' net mid net' n r s a x is buries journals).mid
 unfolding stepped
 stepped_so t config hs hs' js js' ts ts' last ss ss' net mid net' n r s a x is buries journals P p = p
 

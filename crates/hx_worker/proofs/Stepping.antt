@@ -120,16 +120,16 @@ buries_one a b l n = record {
 }
 
 -- the sessions are sound, the seats are those that it asks for, and what a caller learns
-pub record StepDone (P : SessionNow → SessionNow → Type 0) (w w' : WorkerNow) (items' : List (ℕ × SessionNow)) (net net' : NetState) (n : SessionNo) (r : Step) : Type 0 where
+pub record StepDone (P : SessionNow → SessionNow → NetState → Type 0) (w w' : WorkerNow) (items' : List (ℕ × SessionNow)) (net net' : NetState) (n : SessionNo) (r : Step) : Type 0 where
   pub under : AreUnderTheirs items'
   pub sound : HasSessions w'
   pub seats : HasSeats w → HasSeats w'
   pub steps : Steps w w' net net' n r
-  pub timely : P steps.session steps.after
+  pub timely : P steps.session steps.after steps.mid
 
-module _ (P : SessionNow → SessionNow → Type 0) (t : ThreadNo) (config : Meaning) (hs hs' : List History) (js js' : List JournalRoom) (ts ts' : List ℕ) (last : ℕ) (items : List (ℕ × SessionNow)) (net mid : NetState) (n : SessionNo) (r : Step) (s a : SessionNow)
+module _ (P : SessionNow → SessionNow → NetState → Type 0) (t : ThreadNo) (config : Meaning) (hs hs' : List History) (js js' : List JournalRoom) (ts ts' : List ℕ) (last : ℕ) (items : List (ℕ × SessionNow)) (net mid : NetState) (n : SessionNo) (r : Step) (s a : SessionNow)
     (x : Stepped config n.0 (sessions_of items) s a (around_with hs ts net) (around_with hs' ts' mid) r) (under : AreUnderTheirs items) (has : HasSessions (worker_now t config hs js ts last (sessions_of items)))
-    (journals : JournalsStay most_marks js js') (p : P s a) where
+    (journals : JournalsStay most_marks js js') (p : P s a mid) where
   number : a.number.0 ≡ n.0
   number = after_number t config hs hs' js js' ts ts' last (sessions_of items) net mid n.0 r s a x has
 
@@ -161,10 +161,10 @@ module _ (P : SessionNow → SessionNow → Type 0) (t : ThreadNo) (config : Mea
       (subst (λ b. BuriesClient b a.client mid net') (sym over) (x.left over, buries_one mid net' a.client (subst (NetBuries mid net') is buries)))
 
 -- the same from what the session's call ensures, of the lists that are lent to it
-module _ {S : Type 0} (P : SessionNow → SessionNow → Type 0) (h : S → History) (f : S → JournalRoom) (t : ThreadNo) (config : Meaning) (last : ℕ) (items : List (ℕ × SessionNow)) (xs ys xs' ys' : List S) (ts us ts' us' : List ℕ)
+module _ {S : Type 0} (P : SessionNow → SessionNow → NetState → Type 0) (h : S → History) (f : S → JournalRoom) (t : ThreadNo) (config : Meaning) (last : ℕ) (items : List (ℕ × SessionNow)) (xs ys xs' ys' : List S) (ts us ts' us' : List ℕ)
     (net mid : NetState) (n : SessionNo) (r : Step) (s a : SessionNow) (before : xs ≡ ys) (turns : ts ≡ us) (behind : xs' ≡ ys') (turns' : ts' ≡ us') (value : Some s ≡ value_of items n.0)
     (ensures : StepEnsures config s a (around_with (map h xs) ts net) (around_with (map h xs') ts' mid) r) (rooms : JournalsStay most_marks (map f xs) (map f xs'))
-    (under : AreUnderTheirs items) (has : HasSessions (worker_now t config (map h ys) (map f ys) us last (sessions_of items))) (p : P s a) where
+    (under : AreUnderTheirs items) (has : HasSessions (worker_now t config (map h ys) (map f ys) us last (sessions_of items))) (p : P s a mid) where
   made : Stepped config n.0 (sessions_of items) s a (around_with (map h ys) us net) (around_with (map h ys') us' mid) r
   made =
       let there : session_of (sessions_of items) n.0 ≡ Some s = sym (value_is items n.0 under) ∙ sym value in

@@ -11,13 +11,14 @@ use Rattle.hx_connecting.specs.Journals.{JournalsStay}
 use Rattle.hx_connecting.specs.Links.{GainsAll}
 use Rattle.hx_connecting.specs.Sessions.{SessionNow, Around, around_with}
 use Rattle.hx_connecting.specs.Touches.{Touch, most_marks}
-use Rattle.hx_session.specs.Deciding.{KeepsOwn}
+use Rattle.hx_session.specs.Deciding.{CutsAllFor, KeepsOwn, OwnsFor}
 use Rattle.hx_session.specs.Doings.{Doing}
 use Rattle.hx_session.specs.Kept.{IsSameStep}
 use Rattle.hx_session.specs.Linking.{StepLinks}
 use Rattle.hx_session.specs.Marking.{AddsMarks}
 use Rattle.hx_session.specs.Causes.{CanBeLate, LeavesFor}
 use Rattle.hx_session.specs.Fits.{limits_of}
+use Rattle.hx_session.specs.Standstill.{Stands}
 use Rattle.hx_session.specs.Steps.{IsNew, ReadsFirst, StepChooses, doing}
 use Rattle.hx_session.specs.Telling.{StepTold}
 use Rattle.hx_session.specs.Touching.{Touches}
@@ -42,11 +43,14 @@ pub record SessionStep (config : Meaning) (s s' : SessionNow) (before after : Ar
   pub keeps : KeepsOwn s s' r.served
   pub ended : (r.waits ≡ Ended → s'.over ≡ true) × (s'.over ≡ true → r.waits ≡ Ended)
 
--- and by its moment: its first one reads its client's link, or that client's timeout can have come, and where the session
--- leaves it does so for its cause
-pub record IsTimely (config : Meaning) (s s' : SessionNow) (now : ℕ) (r : Step) : Type 0 where
+-- and by its moment: its first one reads its client's link, or that client's timeout can have come; each own answer and each
+-- cut is for its cause, and so is the session's end; and where nothing moved the session had to wait, with nothing left to do
+pub record IsTimely (config : Meaning) (s s' : SessionNow) (net net' : NetState) (now : ℕ) (r : Step) : Type 0 where
   pub first : IsNew s → ReadsFirst s s' ⊎ CanBeLate (limits_of config s.front).client s now
+  pub owns : OwnsFor (limits_of config s.front) s s' net net' now r.served
+  pub cuts : CutsAllFor (limits_of config s.front) s s' net net' now r.served
   pub leaves : IfSome r.left (λ l. LeavesFor (limits_of config s.front) s s' r.served now l.cause)
+  pub stands : r.moved ≡ false → Stands s s' now
 
 -- the session behind its step in place of that before; one that is over is gone
 abbrev pub placed : List SessionNow → SessionNow → List SessionNow
@@ -98,4 +102,4 @@ pub record Steps (w w' : WorkerNow) (net net' : NetState) (n : SessionNo) (r : S
 
 -- the same, at that moment
 abbrev pub StepsAt : WorkerNow → WorkerNow → NetState → NetState → SessionNo → ℕ → Step → Type 0
-StepsAt w w' net net' n now r = (k : Steps w w' net net' n r) × IsTimely w.config k.session k.after now r
+StepsAt w w' net net' n now r = (k : Steps w w' net net' n r) × IsTimely w.config k.session k.after net k.mid now r

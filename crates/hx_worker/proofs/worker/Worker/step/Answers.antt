@@ -56,7 +56,7 @@ end-requires g c =
 
 -- where the session goes on
 on : (g : _) (c : In-Nothing g)
-    → StepDone (λ s a. IsTimely (meaning c.self.inside.config.now) s a c.args.now.0 c.step-step.result) (worker_now c.self.inside.thread (meaning c.self.inside.config.now) (map g.S.HasHistory.history c.self.inside.seats.items)
+    → StepDone (λ s a m. IsTimely (meaning c.self.inside.config.now) s a (g.N.Net.state c.args.net.now) m c.args.now.0 c.step-step.result) (worker_now c.self.inside.thread (meaning c.self.inside.config.now) (map g.S.HasHistory.history c.self.inside.seats.items)
     (map (room_of g.S.HasHistory.kept_from g.S.HasHistory.spare) c.self.inside.seats.items) c.self.inside.turns.items c.self.inside.last (sessions_of c.self.inside.sessions.items))
     (worker_now c.self.inside.thread (meaning c.self.inside.config.now) (map g.S.HasHistory.history (with_items c.self.inside.seats c.step-step.new.seats).items)
     (map (room_of g.S.HasHistory.kept_from g.S.HasHistory.spare) (with_items c.self.inside.seats c.step-step.new.seats).items) (with_items c.self.inside.turns c.step-step.new.turns).items c.self.inside.last (sessions_of (with_value c.self.inside.sessions.items c.args.n.0 c.step-step.new.self)))
@@ -66,15 +66,16 @@ on g c =
     let xs = with_items i.seats c.step-step.new.seats in let ts = with_items i.turns c.step-step.new.turns in
     let a = with_items_is i.seats c.step-step.new.seats (e.sizes.0 ∙ c.as_mut_slice.ensures.len) in
     let b = with_items_is i.turns c.step-step.new.turns (e.sizes.1 ∙ c.as_mut_slice-2.ensures.len) in
-    stays_here (λ s a. IsTimely (meaning c.self.inside.config.now) s a c.args.now.0 c.step-step.result) h f i.thread (meaning i.config.now) i.last i.sessions.items c.as_mut_slice.result.now i.seats.items c.step-step.new.seats xs.items
+    let going = going_there i.sessions.items c.args.n.0 c.in-Some.session.now _ (meaning i.config.now) c.self.invariant.under c.self.invariant.has c.in-Some.ensures.value in
+    stays_here (λ s a m. IsTimely (meaning c.self.inside.config.now) s a (g.N.Net.state c.args.net.now) m c.args.now.0 c.step-step.result) h f i.thread (meaning i.config.now) i.last i.sessions.items c.as_mut_slice.result.now i.seats.items c.step-step.new.seats xs.items
     c.as_mut_slice-2.result.now i.turns.items c.step-step.new.turns ts.items (g.N.Net.state c.args.net.now) (g.N.Net.state c.step-step.new.net) c.args.n c.step-step.result
     c.in-Some.session.now c.step-step.new.self c.as_mut_slice.ensures.value c.as_mut_slice-2.ensures.value (sym a) (sym b) c.in-Some.ensures.value
     (record { same = e.same; adds = e.adds; links = e.links; chooses = e.chooses; tells = e.tells; keeps = e.keeps; ended = e.ended; turns = e.turns; going = e.going; left = e.left; holds = e.holds; serve = e.seats })
-    e.journals c.self.invariant.under c.self.invariant.has (record { first = e.first; leaves = e.leaves (going_there i.sessions.items c.args.n.0 c.in-Some.session.now _ (meaning i.config.now) c.self.invariant.under c.self.invariant.has c.in-Some.ensures.value) }) (not_ended c.step-step.result.waits c.in-Nothing.is)
+    e.journals c.self.invariant.under c.self.invariant.has (record { first = e.first; owns = e.owns going; cuts = e.cuts going; leaves = e.leaves going; stands = λ still. e.stands still going }) (not_ended c.step-step.result.waits c.in-Nothing.is)
 
 -- where it is gone
 off : (g : _) (c : After-bury g)
-    → StepDone (λ s a. IsTimely (meaning c.self.inside.config.now) s a c.args.now.0 c.step-step.result) (worker_now c.self.inside.thread (meaning c.self.inside.config.now) (map g.S.HasHistory.history c.self.inside.seats.items)
+    → StepDone (λ s a m. IsTimely (meaning c.self.inside.config.now) s a (g.N.Net.state c.args.net.now) m c.args.now.0 c.step-step.result) (worker_now c.self.inside.thread (meaning c.self.inside.config.now) (map g.S.HasHistory.history c.self.inside.seats.items)
     (map (room_of g.S.HasHistory.kept_from g.S.HasHistory.spare) c.self.inside.seats.items) c.self.inside.turns.items c.self.inside.last (sessions_of c.self.inside.sessions.items))
     (worker_now c.self.inside.thread (meaning c.self.inside.config.now) (map g.S.HasHistory.history (with_items c.self.inside.seats c.step-step.new.seats).items)
     (map (room_of g.S.HasHistory.kept_from g.S.HasHistory.spare) (with_items c.self.inside.seats c.step-step.new.seats).items) (with_items c.self.inside.turns c.step-step.new.turns).items c.self.inside.last (sessions_of c.remove.new.self.items))
@@ -84,11 +85,12 @@ off g c =
     let xs = with_items i.seats c.step-step.new.seats in let ts = with_items i.turns c.step-step.new.turns in
     let a = with_items_is i.seats c.step-step.new.seats (e.sizes.0 ∙ c.as_mut_slice.ensures.len) in
     let b = with_items_is i.turns c.step-step.new.turns (e.sizes.1 ∙ c.as_mut_slice-2.ensures.len) in
-    gone_here (λ s a. IsTimely (meaning c.self.inside.config.now) s a c.args.now.0 c.step-step.result) h f i.thread (meaning i.config.now) i.last i.sessions.items c.as_mut_slice.result.now i.seats.items c.step-step.new.seats xs.items
+    let going = going_there i.sessions.items c.args.n.0 c.in-Some.session.now _ (meaning i.config.now) c.self.invariant.under c.self.invariant.has c.in-Some.ensures.value in
+    gone_here (λ s a m. IsTimely (meaning c.self.inside.config.now) s a (g.N.Net.state c.args.net.now) m c.args.now.0 c.step-step.result) h f i.thread (meaning i.config.now) i.last i.sessions.items c.as_mut_slice.result.now i.seats.items c.step-step.new.seats xs.items
     c.as_mut_slice-2.result.now i.turns.items c.step-step.new.turns ts.items (g.N.Net.state c.args.net.now) (g.N.Net.state c.step-step.new.net) c.args.n c.step-step.result
     c.in-Some.session.now c.step-step.new.self c.as_mut_slice.ensures.value c.as_mut_slice-2.ensures.value (sym a) (sym b) c.in-Some.ensures.value
     (record { same = e.same; adds = e.adds; links = e.links; chooses = e.chooses; tells = e.tells; keeps = e.keeps; ended = e.ended; turns = e.turns; going = e.going; left = e.left; holds = e.holds; serve = e.seats })
-    e.journals c.self.invariant.under c.self.invariant.has (record { first = e.first; leaves = e.leaves (going_there i.sessions.items c.args.n.0 c.in-Some.session.now _ (meaning i.config.now) c.self.invariant.under c.self.invariant.has c.in-Some.ensures.value) })
+    e.journals c.self.invariant.under c.self.invariant.has (record { first = e.first; owns = e.owns going; cuts = e.cuts going; leaves = e.leaves going; stands = λ still. e.stands still going })
     c.remove.new.self.items (g.N.Net.state c.bury.new.self) (g.L.Link.state c.end.result) c.in-Ended.is c.remove.ensures.rest
     (c.end.ensures
     ∙ ap (λ (s : SessionNow). s.client)
