@@ -1,6 +1,7 @@
+use Rattle.hx_connecting.specs.Sessions.{SessionNow}
 -- Why a step decided what it decided.
 use Rattle.std.proofs.Common.{◌≡◌, ◌⊎◌, ◌≤◌, ◌<◌, ◌-◌, ℕ, Bool, true, false, List, [], ◌∷◌, length, drop, refl, sym, ap, subst, ◌∙◌, inl, inr, arith, Option, Some, None, ⊎_elim}
-use Rattle.std.specs.Prelude.{IfSome, IsSome, ⊤, ◌||◌}
+use Rattle.std.specs.Prelude.{IfSome, IsSome, ◌||◌}
 use Rattle.hx_base.specs.declared.numbers.ConnId.{ConnId}
 use Rattle.hx_base.specs.declared.numbers.ServerNo.{ServerNo}
 use Rattle.hx_base.specs.declared.what.LinkTold.{LinkTold}
@@ -45,12 +46,12 @@ use Rattle.hx_session.specs.declared.stage.Came.TheVariants.{On, Moved, Ends}
 use Rattle.hx_session.specs.Bad.{HasBadChunks, IsBadRequest, IsBrokenAnswer}
 use Rattle.hx_session.specs.Causes.{AnswerBroke, Buries, MayBeSilent, CutsFor, Decides, HasCome, Limits, ClientStops, IsNoAnswer, NotSilent, ServerEnded, ServerFailed, Unserved, all_drain, bad_request, client_late, server_late, connect_late, unserved, broken as broke, lost, early, ended, fault, late, client, silent}
 use Rattle.hx_session.specs.Causes as why
-use Rattle.hx_session.specs.Decided.{ClientComes, CutsAs, DoneDecides, GivesOwnOnly, HasPassed, OwnIs, IsQuiet, PassesOn, ServerLate, Ungiven, status_for, BusyStays, CameDecides, CutsRecord, CutsWhy, EndsAs, EndsByServer, LosesServer, IsHeard, IsSilent, IsSoFar, Given, MovesNoByte, OwnAnswers, loose}
+use Rattle.hx_session.specs.Decided.{Lack, Terms, HasLack, limits_in, terms_of, ClientComes, CutsAs, DoneDecides, GivesOwnOnly, HasPassed, OwnIs, IsQuiet, PassesOn, ServerLate, Ungiven, status_for, BusyStays, CameDecides, CutsRecord, CutsWhy, EndsAs, EndsByServer, LosesServer, IsHeard, IsSilent, IsSoFar, Given, MovesNoByte, OwnAnswers, loose}
 use Rattle.hx_session.specs.Desks.{DeskNow}
 use Rattle.hx_session.specs.Exchanged.{ExchangeNow}
 use Rattle.hx_session.specs.Moves.{with_client, GivesClient, ReadsClient}
 use Rattle.hx_session.specs.Carried.{IsCarried}
-use Rattle.hx_session.specs.Deciding.{CutsAllFor, OwnsFor}
+use Rattle.hx_session.specs.Deciding.{CutsAllFor, OwnsAs}
 use Rattle.hx_session.specs.Beginning.{ChoosesIn}
 use Rattle.hx_config.specs.declared.parts.Server.{Server}
 use Rattle.hx_session.specs.declared.moves.Move.{Move}
@@ -154,7 +155,7 @@ heard_from d0 d s0 s front a b number k heard = ⊎_elim
     x)
     heard
 
-pub answers_from : (limits : Limits) (now : ℕ) (d0 d : DeskNow) (s0 s : StageNow) (net0 net net' : NetState) (status : ℕ) → IsSoFar d0 s0 net0 d s net → OwnAnswers limits now d s net net' status → OwnAnswers limits now d0 s0 net0 net' status
+pub answers_from : (limits : Terms) (now : ℕ) (d0 d : DeskNow) (s0 s : StageNow) (net0 net net' : NetState) (status : ℕ) → IsSoFar d0 s0 net0 d s net → OwnAnswers limits now d s net net' status → OwnAnswers limits now d0 s0 net0 net' status
 answers_from limits now d0 d s0 s net0 net net' status k own = λ front. by_cause front status (own front)
   where
     since_is : d.since ≡ d0.since
@@ -168,12 +169,12 @@ answers_from limits now d0 d s0 s net0 net net' status k own = λ front. by_caus
     comes : (o : Option Millis) → HasCome o d.since.0 now → HasCome o d0.since.0 now
     comes o h = subst (λ (m : Millis). HasCome o m.0 now) since_is h
 
-    by_cause : (front n : ℕ) → Decides limits (session_seen front d s) net net' now (λ u. ⊤) n → Decides limits (session_seen front d0 s0) net0 net' now (λ u. ⊤) n
+    by_cause : (front n : ℕ) → Decides (limits_in limits) (session_seen front d s) net net' now (HasLack limits.lack) n → Decides (limits_in limits) (session_seen front d0 s0) net0 net' now (HasLack limits.lack) n
     by_cause front n (bad_request m h) = bad_request m (asked (IsBadRequest m) h)
     by_cause front n (client_late h) = client_late (comes limits.client h)
     by_cause front n (server_late h) = server_late (comes limits.server h)
     by_cause front n (connect_late h) = connect_late (comes limits.connect h)
-    by_cause front n (unserved u h) = unserved u tt
+    by_cause front n (unserved u h) = unserved u h
     by_cause front n (broke b l was buries h) =
         let e = exchange_of s b was in
         let x = k.exchange e.0 e.1 in
@@ -191,7 +192,7 @@ answers_from limits now d0 d s0 s net0 net net' status k own = λ front. by_caus
 rose_from : (a b c : ℕ) → a ≤ b → Rose b c → Rose a c
 rose_from a b c le r = omega (arith, le, r)
 
-pub cuts_from : (limits : Limits) (now : ℕ) (d0 d : DeskNow) (s0 s : StageNow) (net0 net net' : NetState) (client' : LinkState) (served : Option Served) → IsSoFar d0 s0 net0 d s net → CutsRecord limits now d s net client' net' served
+pub cuts_from : (limits : Terms) (now : ℕ) (d0 d : DeskNow) (s0 s : StageNow) (net0 net net' : NetState) (client' : LinkState) (served : Option Served) → IsSoFar d0 s0 net0 d s net → CutsRecord limits now d s net client' net' served
     → CutsRecord limits now d0 s0 net0 client' net' served
 cuts_from limits now d0 d s0 s net0 net net' client' served k cuts = λ r c w b is kind_is was.
     let e0 = exchange_of s0 b was in
@@ -214,7 +215,7 @@ cuts_from limits now d0 d s0 s net0 net net' client' served k cuts = λ r c w b 
     asked : (P : List ℕ → Type 0) (o : Option (List ℕ)) → IfSome o (λ bytes. P (drop d.ask_from bytes)) → IfSome o (λ bytes. P (drop d0.ask_from bytes))
     asked P o h = subst (λ (n : ℕ). IfSome o (λ bytes. P (drop n bytes))) (ap (λ (x : DeskNow). x.ask_from) k.desk) h
 
-    by_client : (front : ℕ) → ClientStops limits (session_seen front d s) client' now → ClientStops limits (session_seen front d0 s0) client' now
+    by_client : (front : ℕ) → ClientStops (limits_in limits) (session_seen front d s) client' now → ClientStops (limits_in limits) (session_seen front d0 s0) client' now
     by_client front (inl h) = inl (h.0, asked (λ bytes. (n : ℕ) → HasWholeRequest bytes n → ⊥) client'.taken h.1)
     by_client front (inr (inl h)) = inr (inl (rose_from d0.client.faults d.client.faults client'.faults k.client.faults h))
     by_client front (inr (inr (inl h))) = inr (inr (inl (comes limits.client h)))
@@ -226,7 +227,7 @@ cuts_from limits now d0 d s0 s net0 net net' client' served k cuts = λ r c w b 
     by_ended : (a b : BusyNow) → BusyStays a b → ServerEnded b → ServerEnded a
     by_ended a b stays h = (sym (ap (λ (y : LinkState). y.told_end) stays.link.link) ∙ h.0, answer_stays IsNoAnswer a b stays h.1)
 
-    by_cause : (front : ℕ) (w : CutCause) (l : LinkState) (a b : BusyNow) → BusyStays a b → CutsFor limits (session_seen front d s) client' b l now w → CutsFor limits (session_seen front d0 s0) client' a l now w
+    by_cause : (front : ℕ) (w : CutCause) (l : LinkState) (a b : BusyNow) → BusyStays a b → CutsFor (limits_in limits) (session_seen front d s) client' b l now w → CutsFor (limits_in limits) (session_seen front d0 s0) client' a l now w
     by_cause front w l a b stays early = early
     by_cause front w l a b stays (ended g h) = ended (given g) (by_ended a b stays h)
     by_cause front w l a b stays (fault g h) = fault (given g) h
@@ -289,7 +290,7 @@ far_then d0 d d' s0 s s' net0 net net' x y = record {
   net_same = y.net_same ∙ x.net_same;
 }
 
-pub came_from : {X : Type 0} (limits : Limits) (now : ℕ) (d0 d d' : DeskNow) (s0 s : StageNow) (net0 net net' : NetState) (c : Came X) → IsSoFar d0 s0 net0 d s net → CameDecides limits now d s net d' c net' → CameDecides limits now d0 s0 net0 d' c net'
+pub came_from : {X : Type 0} (limits : Terms) (now : ℕ) (d0 d d' : DeskNow) (s0 s : StageNow) (net0 net net' : NetState) (c : Came X) → IsSoFar d0 s0 net0 d s net → CameDecides limits now d s net d' c net' → CameDecides limits now d0 s0 net0 d' c net'
 came_from limits now d0 d d' s0 s net0 net net' (On stage w) k x = far_then d0 d d' s0 s (stage_now stage) net0 net net' k x
 came_from limits now d0 d d' s0 s net0 net net' (Moved stage w served) k x =
     (λ none status is. answers_from limits now d0 d s0 s net0 net net' status k (x.0 (k.own ∙ none) status is), cuts_from limits now d0 d s0 s net0 net net' d'.client served k x.1)
@@ -310,16 +311,16 @@ far_self d s net = record {
 }
 
 -- no exchange is cut off without a record
-pub none_cut : (limits : Limits) (now : ℕ) (d0 : DeskNow) (s0 : StageNow) (net0 : NetState) (client' : LinkState) (net : NetState) → CutsRecord limits now d0 s0 net0 client' net None
+pub none_cut : (limits : Terms) (now : ℕ) (d0 : DeskNow) (s0 : StageNow) (net0 : NetState) (client' : LinkState) (net : NetState) → CutsRecord limits now d0 s0 net0 client' net None
 none_cut limits now d0 s0 net0 client' net = λ r c w b is kind_is was. absurd (never r is)
   where
     never : (r : Served) → None ≡ Some r → ⊥
     never r e = cc
 
 -- a part that ends an exchange
-pub ends_decide : {X : Type 0} (limits : Limits) (now : ℕ) (d0 d d' : DeskNow) (e : ExchangeNow) (net net' : NetState) (Own : ℕ → Type 0) (Cuts : CutCause → Type 0) (c : Came X)
+pub ends_decide : {X : Type 0} (limits : Terms) (now : ℕ) (d0 d d' : DeskNow) (e : ExchangeNow) (net net' : NetState) (Own : ℕ → Type 0) (Cuts : CutCause → Type 0) (c : Came X)
     → ((status : ℕ) → Own status → IsBusy e.busy → Buries e.busy net net' (loose e.busy.link) → OwnAnswers limits now d0 (Exchanging e) net net' status)
-    → ((w : CutCause) → Cuts w → IsBusy e.busy → (front : ℕ) → CutsFor limits (session_seen front d0 (Exchanging e)) d.client e.busy (loose e.busy.link) now w)
+    → ((w : CutCause) → Cuts w → IsBusy e.busy → (front : ℕ) → CutsFor (limits_in limits) (session_seen front d0 (Exchanging e)) d.client e.busy (loose e.busy.link) now w)
     → EndsAs d e.busy net Own Cuts d' c net' → CameDecides limits now d0 (Exchanging e) net d' c net'
 ends_decide limits now d0 d d' e net net' Own Cuts (On stage w) own cuts k = absurd k
 ends_decide limits now d0 d d' e net net' Own Cuts (Moved stage w served) own cuts (o, none, busy, buries) = (
@@ -337,8 +338,8 @@ ends_decide limits now d0 d d' e net net' Own Cuts (Ends x) own cuts (o, held, s
       subst (λ (q : BusyNow). CutsWhy limits now d0 (Exchanging e) net d'.client net' q w) conn (
         loose e.busy.link,
         buries,
-        λ front. subst (λ (l : LinkState). CutsFor limits (session_seen front d0 (Exchanging e)) l e.busy (loose e.busy.link) now w) (sym same)
-            (subst (λ (q : CutCause). CutsFor limits (session_seen front d0 (Exchanging e)) d.client e.busy (loose e.busy.link) now q) what (cuts o.2 o.5 busy front)),
+        λ front. subst (λ (l : LinkState). CutsFor (limits_in limits) (session_seen front d0 (Exchanging e)) l e.busy (loose e.busy.link) now w) (sym same)
+            (subst (λ (q : CutCause). CutsFor (limits_in limits) (session_seen front d0 (Exchanging e)) d.client e.busy (loose e.busy.link) now q) what (cuts o.2 o.5 busy front)),
       ),
   λ r c w is kind_is. held,
 )
@@ -359,13 +360,13 @@ ends_map d b net Own Own' Cuts Cuts' d' (Moved stage w served) net' f g k = ((k.
 ends_map d b net Own Own' Cuts Cuts' d' (Ends e) net' f g k = ((k.0.0, k.0.1, k.0.2, k.0.3, k.0.4, g k.0.2 k.0.5), k.1, k.2, k.3, k.4)
 
 -- an event of the server's side
-pub server_decides : {X : Type 0} (limits : Limits) (now : ℕ) (d d' : DeskNow) (e : ExchangeNow) (net net' : NetState) (w : CutCause) (status : ℕ) (c : Came X)
+pub server_decides : {X : Type 0} (limits : Terms) (now : ℕ) (d d' : DeskNow) (e : ExchangeNow) (net net' : NetState) (w : CutCause) (status : ℕ) (c : Came X)
     → (Buries e.busy net net' (loose e.busy.link) → OwnAnswers limits now d (Exchanging e) net net' status)
-    → (Given d → (front : ℕ) → CutsFor limits (session_seen front d (Exchanging e)) d.client e.busy (loose e.busy.link) now w)
+    → (Given d → (front : ℕ) → CutsFor (limits_in limits) (session_seen front d (Exchanging e)) d.client e.busy (loose e.busy.link) now w)
     → EndsByServer d e.busy net w status d' c net' → CameDecides limits now d (Exchanging e) net d' c net'
 server_decides limits now d d' e net net' w status c own cuts k = ends_decide limits now d d d' e net net' (λ n. (n ≡ status) × Ungiven d) (λ x. (x ≡ w) × Given d) c
     (λ n o busy buries. subst (λ (m : ℕ). OwnAnswers limits now d (Exchanging e) net net' m) (sym o.0) (own buries))
-    (λ x o busy front. subst (λ (y : CutCause). CutsFor limits (session_seen front d (Exchanging e)) d.client e.busy (loose e.busy.link) now y) (sym o.0) (cuts o.1 front))
+    (λ x o busy front. subst (λ (y : CutCause). CutsFor (limits_in limits) (session_seen front d (Exchanging e)) d.client e.busy (loose e.busy.link) now y) (sym o.0) (cuts o.1 front))
     k
 
 -- its link ended or failed
@@ -378,31 +379,31 @@ heard_as front d e h = ⊎_elim (λ first. inl (omega (arith, first))) (λ x. in
 given_as : (d : DeskNow) (e : ExchangeNow) → IsCarried d e → Given d → d.gave_from < d.client.sent_count
 given_as d e c g = omega (arith, g, c.desk.given)
 
-pub loss_decides : {X : Type 0} (limits : Limits) (now : ℕ) (d d' : DeskNow) (e : ExchangeNow) (net net' : NetState) (w : CutCause) (c : Came X) → IsCarried d e
+pub loss_decides : {X : Type 0} (limits : Terms) (now : ℕ) (d d' : DeskNow) (e : ExchangeNow) (net net' : NetState) (w : CutCause) (c : Came X) → IsCarried d e
     → (IsBusy e.busy → ServerEnded e.busy ⊎ ServerFailed (loose e.busy.link))
-    → (IsBusy e.busy → Given d → (front : ℕ) → CutsFor limits (session_seen front d (Exchanging e)) d.client e.busy (loose e.busy.link) now w)
+    → (IsBusy e.busy → Given d → (front : ℕ) → CutsFor (limits_in limits) (session_seen front d (Exchanging e)) d.client e.busy (loose e.busy.link) now w)
     → LosesServer d e.busy net w 502 d' c net' → CameDecides limits now d (Exchanging e) net d' c net'
 loss_decides limits now d d' e net net' w c carried event cuts k = ends_decide limits now d d d' e net net' (λ n. (n ≡ 502) × IsHeard d e.busy) (λ x. ((x ≡ w) × Given d) ⊎ ((x ≡ cut.Silent) × IsSilent d e.busy)) c
     (λ n o busy buries. subst (λ (m : ℕ). OwnAnswers limits now d (Exchanging e) net net' m) (sym o.0) (λ front. lost e.busy (loose e.busy.link) refl buries (event busy) (heard_as front d e o.1)))
     (λ x o busy front. ⊎_elim
-    (λ y. subst (λ (z : CutCause). CutsFor limits (session_seen front d (Exchanging e)) d.client e.busy (loose e.busy.link) now z) (sym y.0) (cuts busy y.1 front))
-    (λ y. subst (λ (z : CutCause). CutsFor limits (session_seen front d (Exchanging e)) d.client e.busy (loose e.busy.link) now z) (sym y.0) (silent (silent_as front d e carried y.1) (event busy)))
+    (λ y. subst (λ (z : CutCause). CutsFor (limits_in limits) (session_seen front d (Exchanging e)) d.client e.busy (loose e.busy.link) now z) (sym y.0) (cuts busy y.1 front))
+    (λ y. subst (λ (z : CutCause). CutsFor (limits_in limits) (session_seen front d (Exchanging e)) d.client e.busy (loose e.busy.link) now z) (sym y.0) (silent (silent_as front d e carried y.1) (event busy)))
     o)
     k
 
 -- the causes of cuts, where something was given
-pub ended_cut : (limits : Limits) (now : ℕ) (d : DeskNow) (e : ExchangeNow) → IsCarried d e → ServerEnded e.busy → Given d → (front : ℕ) → CutsFor limits (session_seen front d (Exchanging e)) d.client e.busy (loose e.busy.link) now cut.Ended
+pub ended_cut : (limits : Terms) (now : ℕ) (d : DeskNow) (e : ExchangeNow) → IsCarried d e → ServerEnded e.busy → Given d → (front : ℕ) → CutsFor (limits_in limits) (session_seen front d (Exchanging e)) d.client e.busy (loose e.busy.link) now cut.Ended
 ended_cut limits now d e c s g front = ended (given_as d e c g) s
 
-pub fault_cut : (limits : Limits) (now : ℕ) (d : DeskNow) (e : ExchangeNow) → IsCarried d e → ServerFailed (loose e.busy.link) → Given d → (front : ℕ) → CutsFor limits (session_seen front d (Exchanging e)) d.client e.busy (loose e.busy.link) now cut.Fault
+pub fault_cut : (limits : Terms) (now : ℕ) (d : DeskNow) (e : ExchangeNow) → IsCarried d e → ServerFailed (loose e.busy.link) → Given d → (front : ℕ) → CutsFor (limits_in limits) (session_seen front d (Exchanging e)) d.client e.busy (loose e.busy.link) now cut.Fault
 fault_cut limits now d e c s g front = fault (given_as d e c g) s
 
-pub broken_decides : {X : Type 0} (limits : Limits) (now : ℕ) (d d' : DeskNow) (e : ExchangeNow) (net net' : NetState) (c : Came X) → IsCarried d e → AnswerBroke e.busy → EndsByServer d e.busy net cut.Broken 502 d' c net'
+pub broken_decides : {X : Type 0} (limits : Terms) (now : ℕ) (d d' : DeskNow) (e : ExchangeNow) (net net' : NetState) (c : Came X) → IsCarried d e → AnswerBroke e.busy → EndsByServer d e.busy net cut.Broken 502 d' c net'
     → CameDecides limits now d (Exchanging e) net d' c net'
 broken_decides limits now d d' e net net' c carried broke_ k = server_decides limits now d d' e net net' cut.Broken 502 c
     (λ buries front. broke e.busy (loose e.busy.link) refl buries broke_) (λ g front. why.broken (given_as d e carried g) broke_) k
 
-pub bad_decides : {X : Type 0} (limits : Limits) (now : ℕ) (d d' : DeskNow) (e : ExchangeNow) (net net' : NetState) (c : Came X) → IsCarried d e → IfSome d.client.taken (λ bytes. HasBadChunks (drop d.ask_from bytes))
+pub bad_decides : {X : Type 0} (limits : Terms) (now : ℕ) (d d' : DeskNow) (e : ExchangeNow) (net net' : NetState) (c : Came X) → IsCarried d e → IfSome d.client.taken (λ bytes. HasBadChunks (drop d.ask_from bytes))
     → EndsByServer d e.busy net cut.Client 400 d' c net' → CameDecides limits now d (Exchanging e) net d' c net'
 bad_decides limits now d d' e net net' c carried bad k = server_decides limits now d d' e net net' cut.Client 400 c
     (λ buries front. bad_request 400 (bad_as d.client.taken bad)) (λ g front. client (inr (inr (inr (given_as d e carried g, bad))))) k
@@ -411,25 +412,25 @@ bad_decides limits now d d' e net net' c carried bad k = server_decides limits n
     bad_as None h = tt
     bad_as (Some bytes) h = inr (refl, h)
 
-pub client_decides : {X : Type 0} (limits : Limits) (now : ℕ) (d d' : DeskNow) (e : ExchangeNow) (net net' : NetState) (c : Came X) → HasCome limits.client d.since.0 now
+pub client_decides : {X : Type 0} (limits : Terms) (now : ℕ) (d d' : DeskNow) (e : ExchangeNow) (net net' : NetState) (c : Came X) → HasCome limits.client d.since.0 now
     → EndsByServer d e.busy net cut.Client 408 d' c net' → CameDecides limits now d (Exchanging e) net d' c net'
 client_decides limits now d d' e net net' c late_ k = server_decides limits now d d' e net net' cut.Client 408 c (λ buries front. client_late late_) (λ g front. client (inr (inr (inl late_)))) k
 
-pub late_decides : {X : Type 0} (limits : Limits) (now : ℕ) (d d' : DeskNow) (e : ExchangeNow) (net net' : NetState) (status : ℕ) (c : Came X) → IsCarried d e → ServerLate limits now d status
+pub late_decides : {X : Type 0} (limits : Terms) (now : ℕ) (d d' : DeskNow) (e : ExchangeNow) (net net' : NetState) (status : ℕ) (c : Came X) → IsCarried d e → ServerLate limits now d status
     → EndsByServer d e.busy net cut.Late status d' c net' → CameDecides limits now d (Exchanging e) net d' c net'
 late_decides limits now d d' e net net' status c carried late_ k = server_decides limits now d d' e net net' cut.Late status c
     (λ buries front. ⊎_elim
-    (λ x. subst (λ (n : ℕ). Decides limits (session_seen front d (Exchanging e)) net net' now (λ u. ⊤) n) (sym x.0) (connect_late x.1))
-    (λ x. subst (λ (n : ℕ). Decides limits (session_seen front d (Exchanging e)) net net' now (λ u. ⊤) n) (sym x.0) (server_late x.1))
+    (λ x. subst (λ (n : ℕ). Decides (limits_in limits) (session_seen front d (Exchanging e)) net net' now (HasLack limits.lack) n) (sym x.0) (connect_late x.1))
+    (λ x. subst (λ (n : ℕ). Decides (limits_in limits) (session_seen front d (Exchanging e)) net net' now (HasLack limits.lack) n) (sym x.0) (server_late x.1))
     late_)
     (λ g front. late (given_as d e carried g) (⊎_elim (λ x. inl x.1) (λ x. inr x.1) late_))
     k
 
 -- the exchange is cut off for its client
-pub cut_decides : {X : Type 0} (limits : Limits) (now : ℕ) (d0 d d' : DeskNow) (e : ExchangeNow) (net net' : NetState) (w : CutCause) (c : Came X)
-    → ((front : ℕ) → CutsFor limits (session_seen front d0 (Exchanging e)) d.client e.busy (loose e.busy.link) now w) → CutsAs d e.busy net w d' c net' → CameDecides limits now d0 (Exchanging e) net d' c net'
+pub cut_decides : {X : Type 0} (limits : Terms) (now : ℕ) (d0 d d' : DeskNow) (e : ExchangeNow) (net net' : NetState) (w : CutCause) (c : Came X)
+    → ((front : ℕ) → CutsFor (limits_in limits) (session_seen front d0 (Exchanging e)) d.client e.busy (loose e.busy.link) now w) → CutsAs d e.busy net w d' c net' → CameDecides limits now d0 (Exchanging e) net d' c net'
 cut_decides limits now d0 d d' e net net' w c cuts k = ends_decide limits now d0 d d' e net net' (λ n. ⊥) (λ x. x ≡ w) c (λ n o busy buries. absurd o)
-    (λ x o busy front. subst (λ (y : CutCause). CutsFor limits (session_seen front d0 (Exchanging e)) d.client e.busy (loose e.busy.link) now y) (sym o) (cuts front)) k
+    (λ x o busy front. subst (λ (y : CutCause). CutsFor (limits_in limits) (session_seen front d0 (Exchanging e)) d.client e.busy (loose e.busy.link) now y) (sym o) (cuts front)) k
 
 -- a part that passes bytes on, or changes nothing
 none_own : (s : StageNow) (status : ℕ) → own_seen s ≡ None → own_seen s ≡ Some status → ⊥
@@ -441,7 +442,7 @@ none_own s status none some = none_some (sym none ∙ some)
 pub far_same : (d d' : DeskNow) (s t : StageNow) (net : NetState) → d' ≡ d → t ≡ s → IsSoFar d s net d' t net
 far_same d d' s t net e f = subst (λ (x : DeskNow). IsSoFar d s net x t net) (sym e) (subst (λ (x : StageNow). IsSoFar d s net d x net) (sym f) (far_self d s net))
 
-pub passes_decide : {X : Type 0} (limits : Limits) (now : ℕ) (d d' : DeskNow) (s : StageNow) (net : NetState) (c : Came X) → PassesOn c → LeavesNothing d s d' c → CameDecides limits now d s net d' c net
+pub passes_decide : {X : Type 0} (limits : Terms) (now : ℕ) (d d' : DeskNow) (s : StageNow) (net : NetState) (c : Came X) → PassesOn c → LeavesNothing d s d' c → CameDecides limits now d s net d' c net
 passes_decide limits now d d' s net (On stage w) p k = far_same d d' s (stage_now stage) net k.0 k.1
 passes_decide limits now d d' s net (Moved stage w served) p k = (
   λ none status is. absurd (none_own (stage_now stage) status p.0 is),
@@ -450,7 +451,7 @@ passes_decide limits now d d' s net (Moved stage w served) p k = (
 passes_decide limits now d d' s net (Ends e) p k = absurd p
 
 -- one that tells an exchange as passed
-passed_cut : (limits : Limits) (now : ℕ) (d : DeskNow) (s : StageNow) (net : NetState) (client' : LinkState) (net' : NetState) (served : Option Served) (r : Served) (c : Carried) → r.kind ≡ kind.Passed c → served ≡ Some r → CutsRecord limits now d s net client' net' served
+passed_cut : (limits : Terms) (now : ℕ) (d : DeskNow) (s : StageNow) (net : NetState) (client' : LinkState) (net' : NetState) (served : Option Served) (r : Served) (c : Carried) → r.kind ≡ kind.Passed c → served ≡ Some r → CutsRecord limits now d s net client' net' served
 passed_cut limits now d s net client' net' served r c passed is = λ q k w b at kind_is was. absurd (other k w (sym passed ∙ (ap (λ (x : Served). x.kind) (record_is r q (sym is ∙ at)) ∙ kind_is)))
   where
     record_is : (p q : Served) → Some p ≡ Some q → p ≡ q
@@ -459,7 +460,7 @@ passed_cut limits now d s net client' net' served r c passed is = λ q k w b at 
     other : (k : Carried) (w : CutCause) → kind.Passed c ≡ kind.Cut k w → ⊥
     other k w z = cc
 
-pub passed_decides : {X : Type 0} (limits : Limits) (now : ℕ) (d d' : DeskNow) (s : StageNow) (net net' : NetState) (came : Came X) (r : Served) (c : Carried) → r.kind ≡ kind.Passed c → HasPassed came r → CameDecides limits now d s net d' came net'
+pub passed_decides : {X : Type 0} (limits : Terms) (now : ℕ) (d d' : DeskNow) (s : StageNow) (net net' : NetState) (came : Came X) (r : Served) (c : Carried) → r.kind ≡ kind.Passed c → HasPassed came r → CameDecides limits now d s net d' came net'
 passed_decides limits now d d' s net net' (On stage w) r c passed k = absurd k
 passed_decides limits now d d' s net net' (Moved stage w served) r c passed k =
     (λ none status is. absurd (none_own (stage_now stage) status k.0 is), passed_cut limits now d s net d'.client net' served r c passed k.1)
@@ -478,11 +479,11 @@ passed_decides limits now d d' s net net' (Ends e) r c passed k = (
 abbrev pub NotExchanging : StageNow → Type 0
 NotExchanging s = (e : ExchangeNow) → s ≡ Exchanging e → ⊥
 
-pub no_cut : (limits : Limits) (now : ℕ) (d : DeskNow) (s : StageNow) (net : NetState) (client' : LinkState) (net' : NetState) (served : Option Served) → NotExchanging s → CutsRecord limits now d s net client' net' served
+pub no_cut : (limits : Terms) (now : ℕ) (d : DeskNow) (s : StageNow) (net : NetState) (client' : LinkState) (net' : NetState) (served : Option Served) → NotExchanging s → CutsRecord limits now d s net client' net' served
 no_cut limits now d s net client' net' served other = λ r c w b is kind_is was. let e = exchange_of s b was in absurd (other e.0 e.1)
 
 -- while an own answer is given
-pub answering_decides : {X : Type 0} (limits : Limits) (now : ℕ) (d d' : DeskNow) (a : AnsweringNow) (net net' : NetState) (c : Came X) → HasMoved c → GivesOwnOnly c → CameDecides limits now d (Answering a) net d' c net'
+pub answering_decides : {X : Type 0} (limits : Terms) (now : ℕ) (d d' : DeskNow) (a : AnsweringNow) (net net' : NetState) (c : Came X) → HasMoved c → GivesOwnOnly c → CameDecides limits now d (Answering a) net d' c net'
 answering_decides limits now d d' a net net' (On stage w) k g = absurd k
 answering_decides limits now d d' a net net' (Moved stage w served) k g = (λ none status is. absurd (some_none none), no_cut limits now d (Answering a) net d'.client net' served (λ e z. cc))
   where
@@ -567,18 +568,18 @@ turn_far d0 d s0 net0 net servers turn turn' olds news (Choosing c) s' k x = sub
     other q e z = cc
 
 -- a step that is over
-pub done_stays : (limits : Limits) (now : ℕ) (d0 : DeskNow) (s0 : StageNow) (net0 : NetState) (d : DeskNow) (s : StageNow) (net : NetState) → IsSoFar d0 s0 net0 d s net → DoneDecides limits now d0 s0 net0 d s net None
+pub done_stays : (limits : Terms) (now : ℕ) (d0 : DeskNow) (s0 : StageNow) (net0 : NetState) (d : DeskNow) (s : StageNow) (net : NetState) → IsSoFar d0 s0 net0 d s net → DoneDecides limits now d0 s0 net0 d s net None
 done_stays limits now d0 s0 net0 d s net k = record {
   own = λ none status is. absurd (none_own s status (k.own ∙ none) is);
   cut = none_cut limits now d0 s0 net0 d.client net;
 }
 
 -- the session leaves, and its client's link is on no loop
-loose_cut : (limits : Limits) (now : ℕ) (d0 : DeskNow) (s0 : StageNow) (c c' : LinkState) (b : BusyNow) (l : LinkState) (w : CutCause) (front : ℕ) → c' ≡ record c { on_loop = None } → CutsFor limits (session_seen front d0 s0) c b l now w
-    → CutsFor limits (session_seen front d0 s0) c' b l now w
-loose_cut limits now d0 s0 c c' b l w front is k = subst (λ (x : LinkState). CutsFor limits (session_seen front d0 s0) x b l now w) (sym is) (by_cause w k)
+loose_cut : (limits : Terms) (now : ℕ) (d0 : DeskNow) (s0 : StageNow) (c c' : LinkState) (b : BusyNow) (l : LinkState) (w : CutCause) (front : ℕ) → c' ≡ record c { on_loop = None } → CutsFor (limits_in limits) (session_seen front d0 s0) c b l now w
+    → CutsFor (limits_in limits) (session_seen front d0 s0) c' b l now w
+loose_cut limits now d0 s0 c c' b l w front is k = subst (λ (x : LinkState). CutsFor (limits_in limits) (session_seen front d0 s0) x b l now w) (sym is) (by_cause w k)
   where
-    by_cause : (w : CutCause) → CutsFor limits (session_seen front d0 s0) c b l now w → CutsFor limits (session_seen front d0 s0) (record c { on_loop = None }) b l now w
+    by_cause : (w : CutCause) → CutsFor (limits_in limits) (session_seen front d0 s0) c b l now w → CutsFor (limits_in limits) (session_seen front d0 s0) (record c { on_loop = None }) b l now w
     by_cause w early = early
     by_cause w (ended g h) = ended g h
     by_cause w (fault g h) = fault g h
@@ -587,7 +588,7 @@ loose_cut limits now d0 s0 c c' b l w front is k = subst (λ (x : LinkState). Cu
     by_cause w (client h) = client h
     by_cause w (silent m h) = silent m h
 
-pub done_leaves : (limits : Limits) (now : ℕ) (d0 : DeskNow) (s0 : StageNow) (net0 : NetState) (d d' : DeskNow) (net net' : NetState) (held : Option RestedNow) (served : Option Served) → CutsRecord limits now d0 s0 net0 d.client net served
+pub done_leaves : (limits : Terms) (now : ℕ) (d0 : DeskNow) (s0 : StageNow) (net0 : NetState) (d d' : DeskNow) (net net' : NetState) (held : Option RestedNow) (served : Option Served) → CutsRecord limits now d0 s0 net0 d.client net served
     → ((r : Served) (c : Carried) (w : CutCause) → served ≡ Some r → r.kind ≡ kind.Cut c w → held ≡ None) → (held ≡ None → net'.buried ≡ net.buried) → d'.client ≡ record d.client { on_loop = None }
     → DoneDecides limits now d0 s0 net0 d' Left net' served
 done_leaves limits now d0 s0 net0 d d' net net' held served cuts none stays is = record {
@@ -606,16 +607,30 @@ done_leaves limits now d0 s0 net0 d d' net net' held served cuts none stays is =
     never status z = cc
 
 -- as the worker sees it
-pub owns_for : (limits : Limits) (now front : ℕ) (d0 d : DeskNow) (s0 s : StageNow) (net0 net : NetState) (served : Option Served) → ((r : Served) (status : ℕ) → own_seen s0 ≡ None → served ≡ Some r → r.kind ≡ kind.Own status → ⊥)
-    → DoneDecides limits now d0 s0 net0 d s net served → OwnsFor limits (session_seen front d0 s0) (session_seen front d s) net0 net now served
+pub owns_for : (limits : Terms) (now front : ℕ) (d0 d : DeskNow) (s0 s : StageNow) (net0 net : NetState) (served : Option Served) → ((r : Served) (status : ℕ) → own_seen s0 ≡ None → served ≡ Some r → r.kind ≡ kind.Own status → ⊥)
+    → DoneDecides limits now d0 s0 net0 d s net served → OwnsAs (limits_in limits) (HasLack limits.lack) (session_seen front d0 s0) (session_seen front d s) net0 net now served
 owns_for limits now front d0 d s0 s net0 net served never k = λ none status is. ⊎_elim (λ z. k.own none status z front) (λ z. absurd (never z.0 status none z.1 z.2)) is
 
-pub cuts_for : (limits : Limits) (now front : ℕ) (d0 d : DeskNow) (s0 s : StageNow) (net0 net : NetState) (served : Option Served) → DoneDecides limits now d0 s0 net0 d s net served
-    → CutsAllFor limits (session_seen front d0 s0) (session_seen front d s) net0 net now served
+-- for other reasons that no server took it
+why_map : (limits : Limits) (s : SessionNow) (net net' : NetState) (now : ℕ) (P Q : Unserved → Type 0) (n : ℕ) → ((u : Unserved) → P u → Q u) → Decides limits s net net' now P n → Decides limits s net net' now Q n
+why_map limits s net net' now P Q n f (bad_request m h) = bad_request m h
+why_map limits s net net' now P Q n f (client_late h) = client_late h
+why_map limits s net net' now P Q n f (server_late h) = server_late h
+why_map limits s net net' now P Q n f (connect_late h) = connect_late h
+why_map limits s net net' now P Q n f (unserved u h) = unserved u (f u h)
+why_map limits s net net' now P Q n f (broke b l was buries h) = broke b l was buries h
+why_map limits s net net' now P Q n f (lost b l was buries h heard) = lost b l was buries h heard
+
+pub owns_map : (limits : Limits) (P Q : Unserved → Type 0) (s s' : SessionNow) (net net' : NetState) (now : ℕ) (served : Option Served) → ((u : Unserved) → P u → Q u)
+    → OwnsAs limits P s s' net net' now served → OwnsAs limits Q s s' net net' now served
+owns_map limits P Q s s' net net' now served f k = λ none status is. why_map limits s net net' now P Q status f (k none status is)
+
+pub cuts_for : (limits : Terms) (now front : ℕ) (d0 d : DeskNow) (s0 s : StageNow) (net0 net : NetState) (served : Option Served) → DoneDecides limits now d0 s0 net0 d s net served
+    → CutsAllFor (limits_in limits) (session_seen front d0 s0) (session_seen front d s) net0 net now served
 cuts_for limits now front d0 d s0 s net0 net served k = λ r c w b is kind_is was. let x = k.cut r c w b is kind_is was in (x.0, x.1, x.2 front)
 
 -- the session leaves without a record
-pub ends_none : {X : Type 0} (limits : Limits) (now : ℕ) (d : DeskNow) (s : StageNow) (net : NetState) (d' : DeskNow) (net' : NetState) (x : Ending X) → x.served ≡ None → CameDecides limits now d s net d' (Ends x) net'
+pub ends_none : {X : Type 0} (limits : Terms) (now : ℕ) (d : DeskNow) (s : StageNow) (net : NetState) (d' : DeskNow) (net' : NetState) (x : Ending X) → x.served ≡ None → CameDecides limits now d s net d' (Ends x) net'
 ends_none limits now d s net d' net' x none = (
   subst (λ (q : Option Served). CutsRecord limits now d s net d'.client net' q) (sym none) (none_cut limits now d s net d'.client net'),
   λ r c w is kind_is. absurd (never r (sym none ∙ is)),
@@ -625,15 +640,22 @@ ends_none limits now d s net d' net' x none = (
     never r z = cc
 
 -- a part that moved at the same stage without a record
-pub same_moved : (limits : Limits) (now : ℕ) (d : DeskNow) (s : StageNow) (net : NetState) (d' : DeskNow) (net' : NetState)
+pub same_moved : (limits : Terms) (now : ℕ) (d : DeskNow) (s : StageNow) (net : NetState) (d' : DeskNow) (net' : NetState)
     → (own_seen s ≡ None → (status : ℕ) → own_seen s ≡ Some status → OwnAnswers limits now d s net net' status) × CutsRecord limits now d s net d'.client net' None
 same_moved limits now d s net d' net' = (λ none status is. absurd (none_own s status none is), none_cut limits now d s net d'.client net')
 
 -- an own answer is decided outside of an exchange
-pub own_moved : {X : Type 0} (limits : Limits) (now : ℕ) (d : DeskNow) (s : StageNow) (net : NetState) (d' : DeskNow) (net' : NetState) (stage : Stage X) (k : ℕ) → OwnIs k (stage_now stage) → OwnAnswers limits now d s net net' k
+pub own_moved : {X : Type 0} (limits : Terms) (now : ℕ) (d : DeskNow) (s : StageNow) (net : NetState) (d' : DeskNow) (net' : NetState) (stage : Stage X) (k : ℕ) → OwnIs k (stage_now stage) → OwnAnswers limits now d s net net' k
     → (own_seen s ≡ None → (status : ℕ) → own_seen (stage_now stage) ≡ Some status → OwnAnswers limits now d s net net' status) × CutsRecord limits now d s net d'.client net' None
 own_moved limits now d s net d' net' stage k is own =
     (λ none status at. subst (λ (n : ℕ). OwnAnswers limits now d s net net' n) (sym (is status at)) own, none_cut limits now d s net d'.client net')
+
+-- the same, where its cause is told of the answer that stands decided
+pub own_lacks : {X : Type 0} (limits : Terms) (now : ℕ) (d : DeskNow) (s : StageNow) (net : NetState) (d' : DeskNow) (net' : NetState) (stage : Stage X) (k : ℕ) → OwnIs k (stage_now stage)
+    → ((status : ℕ) → own_seen (stage_now stage) ≡ Some status → OwnAnswers limits now d s net net' k)
+    → (own_seen s ≡ None → (status : ℕ) → own_seen (stage_now stage) ≡ Some status → OwnAnswers limits now d s net net' status) × CutsRecord limits now d s net d'.client net' None
+own_lacks limits now d s net d' net' stage k is own =
+    (λ none status at. subst (λ (n : ℕ). OwnAnswers limits now d s net net' n) (sym (is status at)) (own status at), none_cut limits now d s net d'.client net')
 
 pub own_stage_is : (s : StageNow) (k : ℕ) (held : Option RestedNow) → s ≡ own_stage k held → OwnIs k s
 own_stage_is s k held e = λ status at. one status k (sym at ∙ ap own_seen e)
@@ -675,7 +697,7 @@ fails_now d d' e b same is moves = record {
 }
 
 -- an exchange that stays, or a head that was found
-pub stays_decide : {X : Type 0} (limits : Limits) (now : ℕ) (d d' : DeskNow) (e : ExchangeNow) (net : NetState) (c : Came X) → d' ≡ d → StaysOrMoves e false c → PassesOn c → CameDecides limits now d (Exchanging e) net d' c net
+pub stays_decide : {X : Type 0} (limits : Terms) (now : ℕ) (d d' : DeskNow) (e : ExchangeNow) (net : NetState) (c : Came X) → d' ≡ d → StaysOrMoves e false c → PassesOn c → CameDecides limits now d (Exchanging e) net d' c net
 stays_decide limits now d d' e net (On stage w) same k p = far_same d d' (Exchanging e) (stage_now stage) net same k
 stays_decide limits now d d' e net (Moved stage w served) same k p = (
   λ none status is. absurd (none_own (stage_now stage) status p.0 is),
@@ -683,7 +705,7 @@ stays_decide limits now d d' e net (Moved stage w served) same k p = (
 )
 stays_decide limits now d d' e net (Ends x) same k p = absurd p
 
-pub spelled_decides : {X : Type 0} (limits : Limits) (now : ℕ) (d : DeskNow) (e : ExchangeNow) (d2 : DeskNow) (e2 : ExchangeNow) (net : NetState) (spelled : Bool) (c : Came X) → (spelled ≡ false → SpellsNone d e d2 e2) → StaysOrMoves e2 spelled c → PassesOn c
+pub spelled_decides : {X : Type 0} (limits : Terms) (now : ℕ) (d : DeskNow) (e : ExchangeNow) (d2 : DeskNow) (e2 : ExchangeNow) (net : NetState) (spelled : Bool) (c : Came X) → (spelled ≡ false → SpellsNone d e d2 e2) → StaysOrMoves e2 spelled c → PassesOn c
     → CameDecides limits now d (Exchanging e) net d2 c net
 spelled_decides limits now d e d2 e2 net true c full k p = passes_decide limits now d d2 (Exchanging e) net c p (moved_where c (λ t w. (d2 ≡ d) × (t ≡ Exchanging e) × NothingLeft d (Exchanging e)) k)
 spelled_decides limits now d e d2 e2 net false c full k p =
@@ -691,32 +713,32 @@ spelled_decides limits now d e d2 e2 net false c full k p =
     stays_decide limits now d d2 e net c f.desk (where_then c (λ t w. t ≡ Exchanging e2) (λ t w. t ≡ Exchanging e) (λ t w q. q ∙ ap Exchanging f.exchange) k) p
 
 -- the client ended before its request did
-pub client_cut : (limits : Limits) (now : ℕ) (d : DeskNow) (e : ExchangeNow) → d.client.told_end ≡ true → NoneWhole d.client d.ask_from → (front : ℕ) → CutsFor limits (session_seen front d (Exchanging e)) d.client e.busy (loose e.busy.link) now cut.Client
+pub client_cut : (limits : Terms) (now : ℕ) (d : DeskNow) (e : ExchangeNow) → d.client.told_end ≡ true → NoneWhole d.client d.ask_from → (front : ℕ) → CutsFor (limits_in limits) (session_seen front d (Exchanging e)) d.client e.busy (loose e.busy.link) now cut.Client
 client_cut limits now d e told none front = client (inl (told, none))
 
 -- a head that is refused
-pub refused_cause : (limits : Limits) (now : ℕ) (d : DeskNow) (held : Option RestedNow) (net : NetState) (f : AskFault) (status : ℕ) → IsBetween d → RefusesAsk f d.from.bytes → status ≡ status_of f → OwnAnswers limits now d (Reading held) net net status
+pub refused_cause : (limits : Terms) (now : ℕ) (d : DeskNow) (held : Option RestedNow) (net : NetState) (f : AskFault) (status : ℕ) → IsBetween d → RefusesAsk f d.from.bytes → status ≡ status_of f → OwnAnswers limits now d (Reading held) net net status
 refused_cause limits now d held net f status between refuses is = λ front.
     bad_request status (since_bytes (IsBadRequest status) d.client.taken d.client.taken_count d.ask_from d.from.bytes between.anew.taken (inl (f, refuses, is)))
 
 -- a stage without an own answer
-pub unowned : (limits : Limits) (now : ℕ) (d : DeskNow) (s : StageNow) (net : NetState) (d' : DeskNow) (net' : NetState) (t : StageNow) → own_seen t ≡ None
+pub unowned : (limits : Terms) (now : ℕ) (d : DeskNow) (s : StageNow) (net : NetState) (d' : DeskNow) (net' : NetState) (t : StageNow) → own_seen t ≡ None
     → (own_seen s ≡ None → (status : ℕ) → own_seen t ≡ Some status → OwnAnswers limits now d s net net' status) × CutsRecord limits now d s net d'.client net' None
 unowned limits now d s net d' net' t none = (λ nothing status is. absurd (none_own t status none is), none_cut limits now d s net d'.client net')
 
 -- the client's deadline while a head is read
-pub reads_late : (limits : Limits) (now : ℕ) (d : DeskNow) (held : Option RestedNow) → IsBetween d → ClientComes limits now d (Reading held) → d.ask_from < d.taken → HasCome limits.client d.since.0 now
+pub reads_late : (limits : Terms) (now : ℕ) (d : DeskNow) (held : Option RestedNow) → IsBetween d → ClientComes limits now d (Reading held) → d.ask_from < d.taken → HasCome limits.client d.since.0 now
 reads_late limits now d held between comes some = ⊎_elim (λ h. h) (λ h. absurd (omega (arith, some, between.anew.desk.taken, between.anew.taken.count, ap (λ (xs : List ℕ). length xs) h.0))) comes
 
-pub late_answer : (limits : Limits) (now : ℕ) (d : DeskNow) (s : StageNow) (net net' : NetState) (status : ℕ) → HasCome limits.client d.since.0 now → status ≡ 408 → OwnAnswers limits now d s net net' status
-late_answer limits now d s net net' status h is = λ front. subst (λ (n : ℕ). Decides limits (session_seen front d s) net net' now (λ u. ⊤) n) (sym is) (client_late h)
+pub late_answer : (limits : Terms) (now : ℕ) (d : DeskNow) (s : StageNow) (net net' : NetState) (status : ℕ) → HasCome limits.client d.since.0 now → status ≡ 408 → OwnAnswers limits now d s net net' status
+late_answer limits now d s net net' status h is = λ front. subst (λ (n : ℕ). Decides (limits_in limits) (session_seen front d s) net net' now (HasLack limits.lack) n) (sym is) (client_late h)
 
 -- no server took the request
-pub unserved_answer : (limits : Limits) (now : ℕ) (d : DeskNow) (s : StageNow) (net net' : NetState) → OwnAnswers limits now d s net net' 503
-unserved_answer limits now d s net net' = λ front. unserved all_drain tt
+pub unserved_answer : (limits : Terms) (now : ℕ) (d : DeskNow) (s : StageNow) (net net' : NetState) → (u : Unserved) × HasLack limits.lack u → OwnAnswers limits now d s net net' 503
+unserved_answer limits now d s net net' k = λ front. unserved k.0 k.1
 
 -- another stage than an exchange has no deadline of a server
-pub not_there : (limits : Limits) (now : ℕ) (d : DeskNow) (s : StageNow) (net : NetState) (t : StageNow) → s ≡ t → IsSoFar d s net d t net
+pub not_there : (limits : Terms) (now : ℕ) (d : DeskNow) (s : StageNow) (net : NetState) (t : StageNow) → s ≡ t → IsSoFar d s net d t net
 not_there limits now d s net t e = far_same d d s t net refl (sym e)
 
 -- what a session that leaves holds nothing of
@@ -726,16 +748,16 @@ lets_bury n held seats seats' net net' a b none k =
     ap (λ (x : NetState). x.buried) k.detaches.0.0 ∙ ap (λ (x : NetState). x.buried) closes.1
 
 -- the client's deadline at another stage than where a head is read
-pub not_reading : (limits : Limits) (now : ℕ) (d : DeskNow) (s t : StageNow) → s ≡ t → ((held : Option RestedNow) → t ≡ Reading held → ⊥) → ClientComes limits now d s → HasCome limits.client d.since.0 now
+pub not_reading : (limits : Terms) (now : ℕ) (d : DeskNow) (s t : StageNow) → s ≡ t → ((held : Option RestedNow) → t ≡ Reading held → ⊥) → ClientComes limits now d s → HasCome limits.client d.since.0 now
 not_reading limits now d s t is other comes = ⊎_elim (λ h. h) (λ h. absurd (other h.1.0 (sym is ∙ h.1.1))) comes
 
 -- an exchange of which bytes were moved
-pub exchange_moved : (limits : Limits) (now : ℕ) (d : DeskNow) (e f : ExchangeNow) (net : NetState) (d' : DeskNow) (net' : NetState)
+pub exchange_moved : (limits : Terms) (now : ℕ) (d : DeskNow) (e f : ExchangeNow) (net : NetState) (d' : DeskNow) (net' : NetState)
     → (own_seen (Exchanging e) ≡ None → (status : ℕ) → own_seen (Exchanging f) ≡ Some status → OwnAnswers limits now d (Exchanging e) net net' status) × CutsRecord limits now d (Exchanging e) net d'.client net' None
 exchange_moved limits now d e f net d' net' = unowned limits now d (Exchanging e) net d' net' (Exchanging f) refl
 
 -- a call of its connection's link failed
-pub failed_decides : {X : Type 0} (limits : Limits) (now : ℕ) (d d1 d2 : DeskNow) (e e1 : ExchangeNow) (net net' : NetState) (c : Came X) → IsCarried d1 e1 → e1.busy.exchange.failed ≡ true → IsSoFar d (Exchanging e) net d1 (Exchanging e1) net
+pub failed_decides : {X : Type 0} (limits : Terms) (now : ℕ) (d d1 d2 : DeskNow) (e e1 : ExchangeNow) (net net' : NetState) (c : Came X) → IsCarried d1 e1 → e1.busy.exchange.failed ≡ true → IsSoFar d (Exchanging e) net d1 (Exchanging e1) net
     → LosesServer d1 e1.busy net cut.Fault 502 d2 c net' → CameDecides limits now d (Exchanging e) net d2 c net'
 failed_decides limits now d d1 d2 e e1 net net' c carried failed far k =
     came_from limits now d d1 d2 (Exchanging e) (Exchanging e1) net net net' c far
@@ -748,13 +770,13 @@ pub server_fails : (d d' : DeskNow) (e e' : ExchangeNow) (now : ℕ) (m : Move) 
 server_fails d d' e e' now m is k = (subst (λ (x : Move). ReadsNone d e d' e' now x) is k).failed
 
 -- which deadline a step found
-pub client_comes : (d : DeskNow) (s : StageNow) (front : Front) (back : Back) (now : ℕ) → FindsLate d s front back now (Some at.Client) → ClientComes (limits_with (Some front) (Some back)) now d s
-client_comes d s front back now k = ⊎_elim (λ h. inl h) (λ h. inr (h.1.none, (h.1.held, h.1.reads))) k
+pub client_comes : (lack : Lack) (d : DeskNow) (s : StageNow) (front : Front) (back : Back) (now : ℕ) → FindsLate d s front back now (Some at.Client) → ClientComes (terms_of (limits_with (Some front) (Some back)) lack) now d s
+client_comes lack d s front back now k = ⊎_elim (λ h. inl h) (λ h. inr (h.1.none, (h.1.held, h.1.reads))) k
 
-pub server_comes : (d : DeskNow) (s : StageNow) (front : Front) (back : Back) (now : ℕ) (l : Late) → (l ≡ at.Client → ⊥) → FindsLate d s front back now (Some l) → ServerLate (limits_with (Some front) (Some back)) now d (status_for l)
-server_comes d s front back now at.Client other k = absurd (other refl)
-server_comes d s front back now at.Connect other k = inl (refl, k.2)
-server_comes d s front back now at.Server other k = inr (refl, k.2)
+pub server_comes : (lack : Lack) (d : DeskNow) (s : StageNow) (front : Front) (back : Back) (now : ℕ) (l : Late) → (l ≡ at.Client → ⊥) → FindsLate d s front back now (Some l) → ServerLate (terms_of (limits_with (Some front) (Some back)) lack) now d (status_for l)
+server_comes lack d s front back now at.Client other k = absurd (other refl)
+server_comes lack d s front back now at.Connect other k = inl (refl, k.2)
+server_comes lack d s front back now at.Server other k = inr (refl, k.2)
 
 -- a record of an own answer is given where one was decided
 own_stage_none : (s : StageNow) (d : DeskNow) (w : LeftCause) (r : Served) (k : Kind) (status : ℕ) → k ≡ kind.Own status → own_seen s ≡ None → IsOfStage s d w r k → ⊥

@@ -1,5 +1,5 @@
 -- That what a step decided has its cause.
-use Rattle.std.specs.Prelude.{◌≡◌, ◌⊎◌, ℕ, Option, Some, None, IfSome, slice_get, ⊤}
+use Rattle.std.specs.Prelude.{◌≡◌, ◌⊎◌, ℕ, Option, Some, None, IfSome, slice_get, ⊤, List}
 use Rattle.hx_base.specs.Counts.{Rose}
 use Rattle.hx_config.specs.Meaning.{Meaning}
 use Rattle.hx_pool.specs.SeatView.{History}
@@ -18,6 +18,7 @@ use Rattle.hx_pool.specs.Opening.{open_limit}
 use Rattle.hx_record.specs.declared.served.Carried.{Carried}
 use Rattle.hx_record.specs.declared.served.CutCause.{CutCause}
 use Rattle.hx_record.specs.declared.served.Kind.TheVariants as kind
+use Rattle.hx_session.specs.Decided.{LacksAt}
 use Rattle.hx_session.specs.Doings.{Doing}
 
 -- no server took the request, by what the call added
@@ -50,6 +51,16 @@ KeepsOwn s s' served =
     IfSome s.own (λ status.
     (s'.client.taken_count ≡ s.client.taken_count)
     × ((s'.own ≡ Some status) ⊎ ((r : Served) × (served ≡ Some r) × (r.kind ≡ kind.Own status))))
+
+-- each own answer of a call at a moment has its cause
+abbrev pub OwnsAs : Limits → (Unserved → Type 0) → SessionNow → SessionNow → NetState → NetState → ℕ → Option Served → Type 0
+OwnsAs limits Why s s' net net' now served = DecidesNew (Decides limits s net net' now Why) s s' served
+
+-- why no server of the frontend's backend took the request, by what a call made of the seats and of the net
+abbrev pub LacksIn : Meaning → ℕ → List History → List History → NetState → NetState → Unserved → Type 0
+LacksIn config front olds news net net' u =
+    (b : ℕ) × (terms : Back) × (back_no (slice_get config.fronts front) ≡ Some b) × (slice_get config.backs b ≡ Some terms)
+    × LacksAt terms.servers olds news net net' u
 
 -- each own answer of a call at a moment has its cause, but for the one that no server took the request
 abbrev pub OwnsFor : Limits → SessionNow → SessionNow → NetState → NetState → ℕ → Option Served → Type 0

@@ -31,7 +31,7 @@ ghost use Rattle.hx_session.specs.Standing.{IsPlaced, CamePlaced, IsRoutedTo, Ca
 ghost use Rattle.hx_session.specs.Telling.{IsStillTold, GivesPassed, CameTells};
 ghost use Rattle.hx_session.specs.Still.{HasMoved};
 ghost use Rattle.hx_session.specs.Causes.{Limits};
-ghost use Rattle.hx_session.specs.Decided.{CameDecides, HasPassed, PassesOn};
+ghost use Rattle.hx_session.specs.Decided.{Terms, CameDecides, HasPassed, PassesOn};
 ghost use Rattle.hx_session.specs.Waiting.{AskIdle, LeavesNothing, StaysOrMoves};
 
 use crate::cuts::look_down;
@@ -389,7 +389,7 @@ fn look_for_head<L: Link, S: Seat<Rested<L>>, N: Net<L = L>>(
         (desk_now L.state desk.new) result (map S.history seats.new) (N.state net.new) }
     ensures still { AskIdle (desk_now L.state desk.old) (exchange_now exchange)
         → LeavesNothing (desk_now L.state desk.old) (Exchanging (exchange_now exchange)) (desk_now L.state desk.new) result }
-    ensures decides { (limits : Limits) (moment : ℕ) → CameDecides limits moment (desk_now L.state desk.old) (Exchanging (exchange_now exchange))
+    ensures decides { (limits : Terms) (moment : ℕ) → CameDecides limits moment (desk_now L.state desk.old) (Exchanging (exchange_now exchange))
         (N.state net.old) (desk_now L.state desk.new) result (N.state net.new) }
 {
     match look_down(exchange.busy.method(), &mut desk.down) {
@@ -484,7 +484,7 @@ fn finish<L: Link, S: Seat<Rested<L>>, N: Net<L = L>>(
     ensures goes { Goes (desk_now L.state desk.old) (Exchanging (exchange_now exchange)) (map S.history seats.old) (N.state net.old)
         (desk_now L.state desk.new) result (map S.history seats.new) (N.state net.new) }
     ensures moved { HasMoved result }
-    ensures decides { (limits : Limits) (moment : ℕ) → CameDecides limits moment (desk_now L.state desk.old) (Exchanging (exchange_now exchange))
+    ensures decides { (limits : Terms) (moment : ℕ) → CameDecides limits moment (desk_now L.state desk.old) (Exchanging (exchange_now exchange))
         (N.state net.old) (desk_now L.state desk.new) result (N.state net.new) }
 {
     if exchange.is_early() {
@@ -545,7 +545,7 @@ fn refuse_ask<L: Link, S: Seat<Rested<L>>, N: Net<L = L>>(
     ensures goes { Goes (desk_now L.state desk.old) (Exchanging (exchange_now exchange)) (map S.history seats.old) (N.state net.old)
         (desk_now L.state desk.new) result (map S.history seats.new) (N.state net.new) }
     ensures moved { HasMoved result }
-    ensures decides { (limits : Limits) (moment : ℕ) → CameDecides limits moment (desk_now L.state desk.old) (Exchanging (exchange_now exchange))
+    ensures decides { (limits : Terms) (moment : ℕ) → CameDecides limits moment (desk_now L.state desk.old) (Exchanging (exchange_now exchange))
         (N.state net.old) (desk_now L.state desk.new) result (N.state net.new) }
 {
     let own = Own {
@@ -569,7 +569,7 @@ pub(crate) fn go_on<L: Link, S: Seat<Rested<L>>, N: Net<L = L>>(
     ensures goes { Goes (desk_now L.state desk.old) (Exchanging (exchange_now exchange)) (map S.history seats.old) (N.state net.old)
         (desk_now L.state desk.new) result (map S.history seats.new) (N.state net.new) }
     ensures still { LeavesNothing (desk_now L.state desk.old) (Exchanging (exchange_now exchange)) (desk_now L.state desk.new) result }
-    ensures decides { (limits : Limits) (moment : ℕ) → CameDecides limits moment (desk_now L.state desk.old) (Exchanging (exchange_now exchange))
+    ensures decides { (limits : Terms) (moment : ℕ) → CameDecides limits moment (desk_now L.state desk.old) (Exchanging (exchange_now exchange))
         (N.state net.old) (desk_now L.state desk.new) result (N.state net.new) }
 {
     match next_of(desk, &exchange) {

@@ -24,7 +24,7 @@ ghost use Rattle.hx_session.specs.Leaving.{CameLeaves, LeavesBy};
 ghost use Rattle.hx_session.specs.Owning.{CameOwn, OwnAt};
 ghost use Rattle.hx_session.specs.Still.{HasMoved};
 ghost use Rattle.hx_base.specs.Counts.{Rose};
-ghost use Rattle.hx_session.specs.Decided.{CameDecides, CutsAs, EndsByServer, GivesUp, IsHeard, IsSilent, LosesServer, Ungiven};
+ghost use Rattle.hx_session.specs.Decided.{Terms, CameDecides, CutsAs, EndsByServer, GivesUp, IsHeard, IsSilent, LosesServer, Ungiven};
 ghost use Rattle.hx_session.specs.Over.{served_of, after_record};
 ghost use Rattle.hx_session.specs.Stages.{Exchanging, Reading, StandsSo, own_stage, stage_of_answering, stage_now};
 ghost use Rattle.hx_record.specs.declared.served.CutCause.TheVariants.{Early};
@@ -305,7 +305,7 @@ pub(crate) fn leave_or_cut<L: Link, S: Seat<Rested<L>>, N: Net<L = L>>(
     ensures own { (status taken : ℕ) → OwnAt status taken (desk_now L.state desk.old) (stage_now stage)
         → CameOwn status taken (desk_now L.state desk.new) result }
     ensures moved { HasMoved result }
-    ensures decides { (limits : Limits) (moment : ℕ) (d0 : DeskNow)
+    ensures decides { (limits : Terms) (moment : ℕ) (d0 : DeskNow)
         → Rose d0.client.faults (L.state desk.old.client).faults
         → CameDecides limits moment d0 (stage_now stage) (N.state net.old) (desk_now L.state desk.new) result (N.state net.new) }
 {

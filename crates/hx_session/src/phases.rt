@@ -14,7 +14,7 @@ ghost use Rattle.hx_connecting.specs.Rooms.{RoomsStay};
 ghost use Rattle.hx_connecting.specs.Sessions.{Holding};
 ghost use Rattle.hx_session.specs.Desks.{DeskNow, desk_now};
 ghost use Rattle.hx_session.specs.Exchanged.{ExchangeNow, exchange_now};
-ghost use Rattle.hx_session.specs.Causes.{HasCome, Limits};
+ghost use Rattle.hx_session.specs.Causes.{HasCome, Limits, Unserved};
 ghost use Rattle.hx_session.specs.Fits.{limits_with};
 ghost use Rattle.hx_session.specs.Leaving.{CameLeaves, LeavesBy};
 ghost use Rattle.hx_session.specs.Owning.{CameOwn, DoneOwn, OwnAt};
@@ -27,7 +27,7 @@ ghost use Rattle.hx_session.specs.Picking.{Picks, PicksTo, PicksSo, PicksAll};
 ghost use Rattle.hx_session.specs.Seen.{conn_seen, chosen_seen};
 ghost use Rattle.hx_session.specs.Stages.{StageNow, Left as Gone, Reading, Exchanging, StandsSo, IsBetween, stage_now, stage_of_answering, stage_of_choosing};
 ghost use Rattle.hx_session.specs.Standing.{IsCounted, IsPlaced, CamePlaced, IsRoutedTo, CameRouted, KeepsPlace, KeepsOver, Goes, IsDone, IsGone, IsLeaving, IsSet};
-ghost use Rattle.hx_session.specs.Decided.{CameDecides, ClientComes, DoneDecides, IsQuiet, IsSoFar, ServerLate, status_for};
+ghost use Rattle.hx_session.specs.Decided.{CameAsks, CameOut, HasLack, IsMoved, Lack, LacksAt, OutOf, Terms, came_out, terms_of, waits_out, CameDecides, ClientComes, DoneDecides, IsQuiet, IsSoFar, ServerLate, status_for};
 ghost use Rattle.hx_session.specs.Still.{IsStill, HasMoved, StaysThere, WantsClient, WhereOn};
 ghost use Rattle.hx_session.specs.Waiting.{IsGiven, IsIdle, IsNone, IsPaused, IsUnread, LeavesNothing, PausedOrChosen, StandsStill};
 ghost use Rattle.hx_session.specs.Telling.{MoveTells, CameTells, TellsEnd, DoneTells};
@@ -82,7 +82,7 @@ fn cut_late<L: Link, S: Seat<Rested<L>>, N: Net<L = L>>(
     ensures goes { Goes (desk_now L.state desk.old) (Exchanging (exchange_now exchange)) (map S.history seats.old) (N.state net.old)
         (desk_now L.state desk.new) result (map S.history seats.new) (N.state net.new) }
     ensures moved { HasMoved result }
-    ensures decides { (limits : Limits) (moment : ℕ) → HasCome limits.client desk.old.since.0 moment → own.status ≡ 408
+    ensures decides { (limits : Terms) (moment : ℕ) → HasCome limits.client desk.old.since.0 moment → own.status ≡ 408
         → CameDecides limits moment (desk_now L.state desk.old) (Exchanging (exchange_now exchange)) (N.state net.old) (desk_now L.state desk.new) result (N.state net.new) }
 {
     if desk.to.len() > 0 {
@@ -100,7 +100,7 @@ fn read_late<L: Link>(desk: &mut Desk<L>, held: Option<Rested<L>>, own: Own) -> 
     ensures left { (limits : Limits) (moment : ℕ) → LeavesBy limits moment (desk_now L.state desk.old) left_cause.Idle
         → CameLeaves limits moment (desk_now L.state desk.new) result }
     ensures moved { HasMoved result }
-    ensures decides { (limits : Limits) (moment : ℕ) (net : NetState)
+    ensures decides { (limits : Terms) (moment : ℕ) (net : NetState)
         → ClientComes limits moment (desk_now L.state desk.old) (Reading held) → own.status ≡ 408
         → CameDecides limits moment (desk_now L.state desk.old) (Reading held) net (desk_now L.state desk.new) result net }
 {
@@ -120,7 +120,7 @@ fn choose_late<L: Link>(desk: &mut Desk<L>, choosing: Choosing<L>, own: Own) -> 
         → Goes (desk_now L.state desk.old) (stage_of_choosing choosing) seats net (desk_now L.state desk.new) result seats net }
     ensures left { (limits : Limits) (moment : ℕ) → CameLeaves limits moment (desk_now L.state desk.new) result }
     ensures moved { HasMoved result }
-    ensures decides { (limits : Limits) (moment : ℕ) (net : NetState)
+    ensures decides { (limits : Terms) (moment : ℕ) (net : NetState)
         → HasCome limits.client desk.old.since.0 moment → own.status ≡ 408
         → CameDecides limits moment (desk_now L.state desk.old) (stage_of_choosing choosing) net (desk_now L.state desk.new) result net }
 {
@@ -147,7 +147,7 @@ fn meet_client_late<L: Link, S: Seat<Rested<L>>, N: Net<L = L>>(
     ensures own { (status taken : ℕ) → OwnAt status taken (desk_now L.state desk.old) (stage_now stage)
         → CameOwn status taken (desk_now L.state desk.new) result }
     ensures still { StaysThere (desk_now L.state desk.old) (stage_now stage) (desk_now L.state desk.new) result }
-    ensures decides { (limits : Limits) (moment : ℕ)
+    ensures decides { (limits : Terms) (moment : ℕ)
         → ClientComes limits moment (desk_now L.state desk.old) (stage_now stage) → own.status ≡ 408
         → CameDecides limits moment (desk_now L.state desk.old) (stage_now stage)
         (N.state net.old) (desk_now L.state desk.new) result (N.state net.new) }
@@ -195,7 +195,7 @@ fn meet_server_late<L: Link, S: Seat<Rested<L>>, N: Net<L = L>>(
     ensures own { (status taken : ℕ) → OwnAt status taken (desk_now L.state desk.old) (stage_now stage)
         → CameOwn status taken (desk_now L.state desk.new) result }
     ensures still { StaysThere (desk_now L.state desk.old) (stage_now stage) (desk_now L.state desk.new) result }
-    ensures decides { (limits : Limits) (moment : ℕ)
+    ensures decides { (limits : Terms) (moment : ℕ)
         → ServerLate limits moment (desk_now L.state desk.old) own.status
         → CameDecides limits moment (desk_now L.state desk.old) (stage_now stage)
         (N.state net.old) (desk_now L.state desk.new) result (N.state net.new) }
@@ -235,7 +235,7 @@ fn meet_deadline<L: Link, S: Seat<Rested<L>>, N: Net<L = L>>(
     ensures own { (status taken : ℕ) → OwnAt status taken (desk_now L.state desk.old) (stage_now stage)
         → CameOwn status taken (desk_now L.state desk.new) result }
     ensures still { StaysThere (desk_now L.state desk.old) (stage_now stage) (desk_now L.state desk.new) result }
-    ensures decides { CameDecides (limits_with (Some scene.entry.front.now) (Some scene.entry.back.now)) scene.entry.now.0
+    ensures decides { (lack : Lack) → CameDecides (terms_of (limits_with (Some scene.entry.front.now) (Some scene.entry.back.now)) lack) scene.entry.now.0
         (desk_now L.state desk.old) (stage_now stage) (N.state net.old) (desk_now L.state desk.new) result (N.state net.new) }
 {
     match find_late(desk, &stage, scene.front, scene.back, scene.now) {
@@ -269,7 +269,7 @@ fn give_some<L: Link, S: Seat<Rested<L>>, N: Net<L = L>>(
         → CameOwn status taken (desk_now L.state desk.new) result }
     ensures still { (d0 : DeskNow) (s0 : StageNow) → IsStill d0 s0 (desk_now L.state desk.old) (stage_now stage)
         → WhereOn result (λ s w. IsGiven d0 s0 (desk_now L.state desk.new) s at.now.0) }
-    ensures decides { (limits : Limits) (moment : ℕ) → CameDecides limits moment (desk_now L.state desk.old) (stage_now stage)
+    ensures decides { (limits : Terms) (moment : ℕ) → CameDecides limits moment (desk_now L.state desk.old) (stage_now stage)
         (N.state net.old) (desk_now L.state desk.new) result (N.state net.new) }
 {
     match give(desk, at.now) {
@@ -309,7 +309,7 @@ fn move_to_client<L: Link, S: Seat<Rested<L>>, N: Net<L = L>>(
     ensures still { (d0 : DeskNow) (s0 : StageNow)
         → WhereOn came (λ s w. IsStill d0 s0 (desk_now L.state desk.old) s)
         → WhereOn result (λ s w. IsGiven d0 s0 (desk_now L.state desk.new) s now.0) }
-    ensures decides { (limits : Limits) (moment : ℕ) (d0 : DeskNow) (s0 : StageNow) (net0 : NetState)
+    ensures decides { (limits : Terms) (moment : ℕ) (d0 : DeskNow) (s0 : StageNow) (net0 : NetState)
         → CameDecides limits moment d0 s0 net0 (desk_now L.state desk.old) came (N.state net.old)
         → CameDecides limits moment d0 s0 net0 (desk_now L.state desk.new) result (N.state net.new) }
 {
@@ -339,7 +339,7 @@ fn after_server_move<L: Link, S: Seat<Rested<L>>, N: Net<L = L>>(
         → CameKeeps result e.busy exchange.busy }
     ensures still { WhereOn result (λ s w. (desk_now L.state desk.new ≡ desk_now L.state desk.old)
         × (s ≡ Exchanging (exchange_now exchange)) × IsNone call.0) }
-    ensures decides { (limits : Limits) (moment : ℕ) (d : DeskNow) (e : ExchangeNow)
+    ensures decides { (limits : Terms) (moment : ℕ) (d : DeskNow) (e : ExchangeNow)
         → (IsQuiet call.0 → IsSoFar d (Exchanging e) (N.state net.old) (desk_now L.state desk.old) (Exchanging (exchange_now exchange)) (N.state net.old))
         → CameDecides limits moment d (Exchanging e) (N.state net.old) (desk_now L.state desk.new) result (N.state net.new) }
 {
@@ -375,7 +375,7 @@ fn send_some<L: Link, S: Seat<Rested<L>>, N: Net<L = L>>(
     ensures still { (d0 : DeskNow) (s0 : StageNow)
         → IsGiven d0 s0 (desk_now L.state desk.old) (Exchanging (exchange_now exchange)) at.now.0
         → WhereOn result (λ s w. IsPaused d0 s0 (desk_now L.state desk.new) s at.now.0) }
-    ensures decides { (limits : Limits) (moment : ℕ)
+    ensures decides { (limits : Terms) (moment : ℕ)
         → CameDecides limits moment (desk_now L.state desk.old) (Exchanging (exchange_now exchange)) (N.state net.old) (desk_now L.state desk.new) result (N.state net.new) }
 {
     let sent = send(desk, &mut exchange, at.now);
@@ -410,7 +410,7 @@ fn move_to_server<L: Link, S: Seat<Rested<L>>, N: Net<L = L>>(
     ensures still { (d0 : DeskNow) (s0 : StageNow)
         → WhereOn came (λ s w. IsGiven d0 s0 (desk_now L.state desk.old) s now.0)
         → WhereOn result (λ s w. IsPaused d0 s0 (desk_now L.state desk.new) s now.0) }
-    ensures decides { (limits : Limits) (moment : ℕ) (d0 : DeskNow) (s0 : StageNow) (net0 : NetState)
+    ensures decides { (limits : Terms) (moment : ℕ) (d0 : DeskNow) (s0 : StageNow) (net0 : NetState)
         → CameDecides limits moment d0 s0 net0 (desk_now L.state desk.old) came (N.state net.old)
         → CameDecides limits moment d0 s0 net0 (desk_now L.state desk.new) result (N.state net.new) }
 {
@@ -435,6 +435,8 @@ fn take_turn<L: Link, S: Seat<Rested<L>>>(
     requires seats { HaveSeats back.now.servers (length seats.old) }
     ensures rooms { RoomsStay S.history (room_of S.kept_from S.spare) seats.old seats.new }
     ensures placed { (d : DeskNow) → CamePlaced d came (map S.history seats.old) → CamePlaced d result (map S.history seats.new) }
+    ensures asks { (d : DeskNow) (k : Option Holding) (v : Option ServerNo) (hs : List History) → CamePlaced d came (map S.history seats.old)
+        → Picks k v hs came (map S.history seats.old) → CameAsks back.now.servers turn.old result hs (map S.history seats.new) }
     ensures about { abouts (map S.history seats.new) ≡ abouts (map S.history seats.old) }
     ensures touches { (d : DeskNow) (net : NetState) → TouchesOn d came (map S.history seats.old) net d result (map S.history seats.new) net }
     ensures routed { CameRouted back.now came → CameRouted back.now result }
@@ -448,7 +450,7 @@ fn take_turn<L: Link, S: Seat<Rested<L>>>(
     ensures own { (status taken : ℕ) (d : DeskNow) → CameOwn status taken d came → CameOwn status taken d result }
     ensures still { (d0 d : DeskNow) (s0 : StageNow) (moment : ℕ) → WhereOn came (λ s w. IsPaused d0 s0 d s moment)
         → WhereOn result (λ s w. PausedOrChosen d0 s0 d s moment) }
-    ensures decides { (limits : Limits) (moment : ℕ) (d0 d : DeskNow) (s0 : StageNow) (net0 net : NetState)
+    ensures decides { (limits : Terms) (moment : ℕ) (d0 d : DeskNow) (s0 : StageNow) (net0 net : NetState)
         → CameDecides limits moment d0 s0 net0 d came net → CameDecides limits moment d0 s0 net0 d result net }
 {
     let Came::On(stage, waits) = came else {
@@ -466,7 +468,7 @@ fn end_answering<L: Link>(desk: &mut Desk<L>, answering: Answering<L>, waits: Wa
     ensures left { (limits : Limits) (moment : ℕ) → CameLeaves limits moment (desk_now L.state desk.new) result }
     ensures own { CameOwn answering.status (L.state desk.old.client).taken_count (desk_now L.state desk.new) result }
     ensures still { LeavesNothing (desk_now L.state desk.old) (stage_of_answering answering) (desk_now L.state desk.new) result }
-    ensures decides { (limits : Limits) (moment : ℕ) (net : NetState)
+    ensures decides { (limits : Terms) (moment : ℕ) (net : NetState)
         → CameDecides limits moment (desk_now L.state desk.old) (stage_of_answering answering) net (desk_now L.state desk.new) result net }
 {
     if desk.to.len() > 0 {
@@ -498,7 +500,11 @@ fn do_stage<L: Link, S: Seat<Rested<L>>, N: Net<L = L>>(
     ensures still { (d0 : DeskNow) (s0 : StageNow) (moment : ℕ)
         → PausedOrChosen d0 s0 (desk_now L.state desk.old) (stage_now stage) moment
         → WhereOn result (λ s w. IsIdle d0 s0 (desk_now L.state desk.new) s moment) }
-    ensures decides { (limits : Limits) (moment : ℕ) → CameDecides limits moment (desk_now L.state desk.old) (stage_now stage)
+    ensures out { waits_out (stage_now stage) ≡ true → IsMoved result }
+    ensures decides { (limits : Terms) (moment : ℕ)
+        → (OutOf desk.old.session (stage_now stage) (map S.history seats.old) (map S.history seats.new) (N.state net.old) (N.state net.new)
+        → (u : Unserved) × HasLack limits.lack u)
+        → CameDecides limits moment (desk_now L.state desk.old) (stage_now stage)
         (N.state net.old) (desk_now L.state desk.new) result (N.state net.new) }
 {
     match stage {
@@ -551,8 +557,11 @@ fn do_phase<L: Link, S: Seat<Rested<L>>, N: Net<L = L>>(
     ensures still { (d0 : DeskNow) (s0 : StageNow) (moment : ℕ)
         → WhereOn came (λ s w. PausedOrChosen d0 s0 (desk_now L.state desk.old) s moment)
         → WhereOn result (λ s w. IsIdle d0 s0 (desk_now L.state desk.new) s moment) }
-    ensures decides { (limits : Limits) (moment : ℕ) (d0 : DeskNow) (s0 : StageNow) (net0 : NetState)
+    ensures out { came_out came ≡ true → IsMoved result }
+    ensures decides { (limits : Terms) (moment : ℕ) (d0 : DeskNow) (s0 : StageNow) (net0 : NetState)
         → CameDecides limits moment d0 s0 net0 (desk_now L.state desk.old) came (N.state net.old)
+        → (CameOut desk.old.session came (map S.history seats.old) (map S.history seats.new) (N.state net.old) (N.state net.new)
+        → (u : Unserved) × HasLack limits.lack u)
         → CameDecides limits moment d0 s0 net0 (desk_now L.state desk.new) result (N.state net.new) }
 {
     let Came::On(stage, waits) = came else {
@@ -595,7 +604,7 @@ fn take_some<L: Link, S: Seat<Rested<L>>, N: Net<L = L>>(
     ensures left { (limits : Limits) (moment : ℕ) → CameLeaves limits moment (desk_now L.state desk.new) result }
     ensures still { (d0 : DeskNow) (s0 : StageNow) → IsIdle d0 s0 (desk_now L.state desk.old) (stage_now stage) at.now.0
         → WhereOn result (λ s w. IsUnread d0 s0 (desk_now L.state desk.new) s at.now.0) }
-    ensures decides { (limits : Limits) (moment : ℕ) → CameDecides limits moment (desk_now L.state desk.old) (stage_now stage)
+    ensures decides { (limits : Terms) (moment : ℕ) → CameDecides limits moment (desk_now L.state desk.old) (stage_now stage)
         (N.state net.old) (desk_now L.state desk.new) result (N.state net.new) }
 {
     match read_client(desk, at.now) {
@@ -635,7 +644,8 @@ fn move_from_client<L: Link, S: Seat<Rested<L>>, N: Net<L = L>>(
     ensures still { (d0 : DeskNow) (s0 : StageNow)
         → WhereOn came (λ s w. IsIdle d0 s0 (desk_now L.state desk.old) s now.0)
         → WhereOn result (λ s w. IsUnread d0 s0 (desk_now L.state desk.new) s now.0) }
-    ensures decides { (limits : Limits) (moment : ℕ) (d0 : DeskNow) (s0 : StageNow) (net0 : NetState)
+    ensures stays { IsMoved came → (result ≡ came) × (map S.history seats.new ≡ map S.history seats.old) × (N.state net.new ≡ N.state net.old) }
+    ensures decides { (limits : Terms) (moment : ℕ) (d0 : DeskNow) (s0 : StageNow) (net0 : NetState)
         → CameDecides limits moment d0 s0 net0 (desk_now L.state desk.old) came (N.state net.old)
         → CameDecides limits moment d0 s0 net0 (desk_now L.state desk.new) result (N.state net.new) }
 {
@@ -663,7 +673,7 @@ fn read_some<L: Link, S: Seat<Rested<L>>, N: Net<L = L>>(
     ensures still { (d0 : DeskNow) (s0 : StageNow)
         → IsUnread d0 s0 (desk_now L.state desk.old) (Exchanging (exchange_now exchange)) at.now.0
         → WhereOn result (λ s w. StandsStill d0 s0 (desk_now L.state desk.new) s at.now.0) }
-    ensures decides { (limits : Limits) (moment : ℕ)
+    ensures decides { (limits : Terms) (moment : ℕ)
         → CameDecides limits moment (desk_now L.state desk.old) (Exchanging (exchange_now exchange)) (N.state net.old) (desk_now L.state desk.new) result (N.state net.new) }
 {
     let read = read_server(desk, &mut exchange, at.now);
@@ -698,7 +708,8 @@ fn move_from_server<L: Link, S: Seat<Rested<L>>, N: Net<L = L>>(
     ensures still { (d0 : DeskNow) (s0 : StageNow)
         → WhereOn came (λ s w. IsUnread d0 s0 (desk_now L.state desk.old) s now.0)
         → WhereOn result (λ s w. StandsStill d0 s0 (desk_now L.state desk.new) s now.0) }
-    ensures decides { (limits : Limits) (moment : ℕ) (d0 : DeskNow) (s0 : StageNow) (net0 : NetState)
+    ensures stays { IsMoved came → (result ≡ came) × (map S.history seats.new ≡ map S.history seats.old) × (N.state net.new ≡ N.state net.old) }
+    ensures decides { (limits : Terms) (moment : ℕ) (d0 : DeskNow) (s0 : StageNow) (net0 : NetState)
         → CameDecides limits moment d0 s0 net0 (desk_now L.state desk.old) came (N.state net.old)
         → CameDecides limits moment d0 s0 net0 (desk_now L.state desk.new) result (N.state net.new) }
 {
@@ -756,7 +767,7 @@ fn give_left<L: Link, S: Seat<Rested<L>>, N: Net<L = L>>(
     ensures own { (status taken : ℕ) → CameOwn status taken (desk_now L.state desk.old) (Ends ending)
         → DoneOwn status taken (desk_now L.state desk.new) (stage_now result.stage) result.served }
     ensures moved { result.moved ≡ true }
-    ensures decides { (limits : Limits) (moment : ℕ) (d0 : DeskNow) (s0 : StageNow) (net0 : NetState)
+    ensures decides { (limits : Terms) (moment : ℕ) (d0 : DeskNow) (s0 : StageNow) (net0 : NetState)
         → CameDecides limits moment d0 s0 net0 (desk_now L.state desk.old) (Ends ending) (N.state net.old)
         → DoneDecides limits moment d0 s0 net0 (desk_now L.state desk.new) (stage_now result.stage) (N.state net.new) result.served }
 {
@@ -803,7 +814,8 @@ fn conclude<L: Link, S: Seat<Rested<L>>, N: Net<L = L>>(
     ensures still { (d0 : DeskNow) (s0 : StageNow) (moment : ℕ)
         → WhereOn came (λ s w. StandsStill d0 s0 (desk_now L.state desk.old) s moment)
         → result.moved ≡ false → StandsStill d0 s0 (desk_now L.state desk.new) (stage_now result.stage) moment }
-    ensures decides { (limits : Limits) (moment : ℕ) (d0 : DeskNow) (s0 : StageNow) (net0 : NetState)
+    ensures stays { IsMoved came → (map S.history seats.new ≡ map S.history seats.old) × (N.state net.new ≡ N.state net.old) }
+    ensures decides { (limits : Terms) (moment : ℕ) (d0 : DeskNow) (s0 : StageNow) (net0 : NetState)
         → CameDecides limits moment d0 s0 net0 (desk_now L.state desk.old) came (N.state net.old)
         → DoneDecides limits moment d0 s0 net0 (desk_now L.state desk.new) (stage_now result.stage) (N.state net.new) result.served }
 {
@@ -864,8 +876,9 @@ pub(crate) fn advance<L: Link, S: Seat<Rested<L>>, N: Net<L = L>>(
         → DoneOwn status taken (desk_now L.state desk.new) (stage_now result.stage) result.served }
     ensures still { result.moved ≡ false
         → StandsStill (desk_now L.state desk.old) (stage_now stage) (desk_now L.state desk.new) (stage_now result.stage) scene.entry.now.0 }
-    ensures decides { DoneDecides (limits_with (Some scene.entry.front.now) (Some scene.entry.back.now)) scene.entry.now.0
-        (desk_now L.state desk.old) (stage_now stage) (N.state net.old) (desk_now L.state desk.new) (stage_now result.stage) (N.state net.new) result.served }
+    ensures decides { (lack : Lack) × DoneDecides (terms_of (limits_with (Some scene.entry.front.now) (Some scene.entry.back.now)) lack) scene.entry.now.0
+        (desk_now L.state desk.old) (stage_now stage) (N.state net.old) (desk_now L.state desk.new) (stage_now result.stage) (N.state net.new) result.served
+        × ((u : Unserved) → HasLack lack u → LacksAt scene.entry.back.now.servers (map S.history seats.old) (map S.history seats.new) (N.state net.old) (N.state net.new) u) }
 {
     let came = meet_deadline(desk, stage, seats, net, scene);
     let came = move_to_client(desk, came, seats, net, scene.now);

@@ -16,6 +16,7 @@ use Rattle.hx_session.specs.Desks.{desk_now, DeskNow}
 use Rattle.hx_session.specs.Stages.{choosing_now, stage_now}
 use Rattle.hx_session.specs.Standing.{IsNumbered, KeepsDesk}
 use Rattle.hx_session.specs.Telling.{TellsNone}
+use Rattle.hx_session.proofs.LackLemmas.{refuses_at}
 use Rattle.hx_session.proofs.PickLemmas.{to_connected}
 use Rattle.hx_session.proofs.asks.connect_to.Goals as goal
 
@@ -46,6 +47,7 @@ returns g c =
       };
       rooms = k.rooms;
       own = a.own;
+      lacks = λ status is. refuses_at olds news d.session (first_of d) c.args.to.0 c.args.to.2.0 c.look_again-asked.result.head.method net net2 c.args.choosing.held c.connect-connected.result (a.lacks status is) connects;
     }
 
 pub look_again-asked-requires : goal.look_again-asked-requires

@@ -1,4 +1,4 @@
-use Rattle.std.proofs.Common.{◌≡◌, ℕ, List, length, map, sym, ap, subst, ◌∙◌, ⊎_elim, inl, inr, Some}
+use Rattle.std.proofs.Common.{◌≡◌, ℕ, List, length, map, sym, ap, subst, ◌∙◌, ⊎_elim, inl, inr, Some, refl}
 use Rattle.std.proofs.lemmas.List.{length-map}
 use Rattle.hx_base.specs.declared.numbers.ThreadNo.{ThreadNo}
 use Rattle.hx_link.specs.Nets.{NetState}
@@ -22,6 +22,8 @@ use Rattle.hx_base.specs.declared.numbers.ServerNo.{ServerNo}
 use Rattle.hx_session.specs.Fits.{limits_with}
 use Rattle.hx_session.proofs.PausedLemmas.{begins_still, where_then}
 use Rattle.hx_session.specs.Still.{IsStill}
+use Rattle.hx_session.specs.Decided.{Lack, came_chosen, came_out, terms_of}
+use Rattle.hx_session.proofs.LackLemmas.{far_net, lacks, lifts, ties}
 use Rattle.hx_session.proofs.phases.advance.Goals as goal
 
 pub do_phase-came-requires-clause-routed : goal.do_phase-came-requires-clause-routed
@@ -224,13 +226,45 @@ returns-clause-still g c =
 
 pub returns-clause-decides : goal.returns-clause-decides
 returns-clause-decides g c =
+    let f = g.S.HasHistory.history in
     let state = g.L.Link.state in
-    let limits = limits_with (Some c.args.scene.front.now) (Some c.args.scene.back.now) in
-    let moment = c.args.scene.now.0 in
     let d : DeskNow = desk_now state c.args.desk.now in
+    let d3 : DeskNow = desk_now state c.move_to_server-came.new.desk in
     let s : StageNow = stage_now c.args.stage in
     let net : NetState = g.N.Net.state c.args.net.now in
-    let sent = c.move_to_server-came.ensures.decides limits moment d s net (c.move_to_client-came.ensures.decides limits moment d s net c.meet_deadline-came.ensures.decides) in
-    let chosen = c.take_turn-came.ensures.decides limits moment d (desk_now state c.move_to_server-came.new.desk) s net (g.N.Net.state c.move_to_server-came.new.net) sent in
-    let read = c.move_from_client-came.ensures.decides limits moment d s net (c.do_phase-came.ensures.decides limits moment d s net chosen) in
-    c.conclude.ensures.decides limits moment d s net (c.move_from_server-came.ensures.decides limits moment d s net read)
+    let came = c.take_turn-came.result in
+    let lack : Lack = record {
+      out = came_out came;
+      session = d3.session;
+      servers = c.args.scene.back.now.servers;
+      turn = c.args.turn.now;
+      olds = map f c.args.seats.now;
+      asked = map f c.take_turn-came.new.seats;
+      chosen = came_chosen came;
+      news = map f c.do_phase-came.new.seats;
+      net = g.N.Net.state c.move_to_server-came.new.net;
+      net' = g.N.Net.state c.do_phase-came.new.net;
+    } in
+    let terms = terms_of (limits_with (Some c.args.scene.front.now) (Some c.args.scene.back.now)) lack in
+    let moment = c.args.scene.now.0 in
+    let sent = c.move_to_server-came.ensures.decides terms moment d s net (c.move_to_client-came.ensures.decides terms moment d s net (c.meet_deadline-came.ensures.decides lack)) in
+    let chosen = c.take_turn-came.ensures.decides terms moment d d3 s net (g.N.Net.state c.move_to_server-came.new.net) sent in
+    let hs : List History = map f c.args.seats.now in
+    let k = conn_seen s in
+    let v = chosen_seen s in
+    let picks = c.move_to_server-came.ensures.picks k v hs (c.move_to_client-came.ensures.picks k v hs c.meet_deadline-came.ensures.goes.picks) in
+    let asks = c.take_turn-came.ensures.asks d3 k v hs c.move_to_server-came.ensures.placed picks in
+    let out = c.do_phase-came.ensures.decides terms moment d s net chosen (lacks lack came refl refl asks) in
+    let read = c.move_from_client-came.ensures.decides terms moment d s net out in
+    let a = c.move_from_client-came.ensures.stays in
+    let b = c.move_from_server-came.ensures.stays in
+    let z = c.conclude.ensures.stays in
+    let tie = ties (map f c.do_phase-came.new.seats) (map f c.move_from_client-came.new.seats) (map f c.move_from_server-came.new.seats) (map f c.conclude.new.seats)
+    (g.N.Net.state c.do_phase-came.new.net) (g.N.Net.state c.move_from_client-came.new.net) (g.N.Net.state c.move_from_server-came.new.net) (g.N.Net.state c.conclude.new.net)
+    c.do_phase-came.result c.move_from_client-came.result c.move_from_server-came.result a b z in (
+      lack,
+      c.conclude.ensures.decides terms moment d s net (c.move_from_server-came.ensures.decides terms moment d s net read),
+      lifts lack (map f c.conclude.new.seats) net (g.N.Net.state c.conclude.new.net) (λ yes.
+          let y = tie (c.do_phase-came.ensures.out yes) in
+          (y.0, far_net terms moment d s net d3 came (g.N.Net.state c.move_to_server-came.new.net) yes chosen, y.1)),
+    )

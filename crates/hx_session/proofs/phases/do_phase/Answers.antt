@@ -1,4 +1,4 @@
-use Rattle.std.proofs.Common.{subst, List, map}
+use Rattle.std.proofs.Common.{subst, List, map, sym}
 use Rattle.hx_session.specs.declared.stage.Came.{Came}
 use Rattle.hx_session.specs.Desks.{desk_now, DeskNow}
 use Rattle.hx_session.specs.Stages.{stage_now}
@@ -18,6 +18,7 @@ use Rattle.hx_session.specs.Still.{WhereOn}
 use Rattle.hx_session.specs.Waiting.{PausedOrChosen}
 use Rattle.hx_session.proofs.DecidedLemmas.{came_from}
 use Rattle.hx_session.specs.Decided.{CameDecides}
+use Rattle.hx_session.specs.Decided.{CameOut}
 use Rattle.hx_session.proofs.phases.do_phase.Goals as goal
 
 pub returns-clause-told : goal.returns-clause-told
@@ -63,8 +64,9 @@ returns-clause-still g c = λ d0 s0 moment k.
     c.do_stage.ensures.still d0 s0 moment (subst (λ (x : Came g.row.L.Denot). WhereOn x (λ s w. PausedOrChosen d0 s0 d s moment)) c.in-On.is k)
 
 pub returns-clause-decides : goal.returns-clause-decides
-returns-clause-decides g c = λ limits moment d0 s0 net0 k.
+returns-clause-decides g c = λ limits moment d0 s0 net0 k h.
+    let f = g.S.HasHistory.history in
     let d : DeskNow = desk_now g.L.Link.state c.args.desk.now in
     let d2 : DeskNow = desk_now g.L.Link.state c.do_stage.new.desk in
     let net : NetState = g.N.Net.state c.args.net.now in
-    came_from limits moment d0 d d2 s0 (stage_now c.in-On.stage) net0 net (g.N.Net.state c.do_stage.new.net) c.do_stage.result (subst (λ (x : Came g.row.L.Denot). CameDecides limits moment d0 s0 net0 d x net) c.in-On.is k) (c.do_stage.ensures.decides limits moment)
+    came_from limits moment d0 d d2 s0 (stage_now c.in-On.stage) net0 net (g.N.Net.state c.do_stage.new.net) c.do_stage.result (subst (λ (x : Came g.row.L.Denot). CameDecides limits moment d0 s0 net0 d x net) c.in-On.is k) (c.do_stage.ensures.decides limits moment (λ o. h (subst (λ (x : Came g.row.L.Denot). CameOut d.session x (map f c.args.seats.now) (map f c.do_stage.new.seats) net (g.N.Net.state c.do_stage.new.net)) (sym c.in-On.is) o)))

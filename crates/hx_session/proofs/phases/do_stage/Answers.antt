@@ -1,4 +1,5 @@
-use Rattle.std.proofs.Common.{List, map, sym, subst, ap, ◌∙◌}
+use Rattle.hx_session.proofs.LackLemmas.{not_out}
+use Rattle.std.proofs.Common.{List, map, sym, subst, ap, ◌∙◌, refl}
 use Rattle.hx_pool.specs.SeatView.{History}
 use Rattle.hx_connecting.specs.Journals.{room_of}
 use Rattle.hx_connecting.proofs.RoomLemmas.{rooms_none}
@@ -20,8 +21,9 @@ use Rattle.hx_session.proofs.PausedLemmas.{phase_idle}
 use Rattle.hx_session.specs.Waiting.{PausedOrChosen}
 use Rattle.hx_session.specs.Stages.{Reading as Wanting, Exchanging as Carrying, stage_of_answering}
 use Rattle.hx_session.specs.Standing.{IsGood}
-use Rattle.hx_session.proofs.DecidedLemmas.{own_moved, unserved_answer, not_there}
+use Rattle.hx_session.proofs.DecidedLemmas.{own_lacks, unserved_answer, not_there}
 use Rattle.hx_session.specs.Decided.{CameDecides}
+use Rattle.hx_session.specs.Decided.{OutOf}
 use Rattle.hx_session.proofs.phases.do_stage.Goals as goal
 
 pub returns-in-Reading : goal.returns-in-Reading
@@ -37,7 +39,8 @@ returns-in-Reading g c =
       rooms = rooms_none g.S.HasHistory.history (room_of g.S.HasHistory.kept_from g.S.HasHistory.spare) c.args.seats.now;
       own = λ status taken k. absurd (none_own (own_seen (stage_now c.args.stage)) status (ap (λ (x : Stage g.row.L.Denot). own_seen (stage_now x)) c.in-Reading.is) k.1);
       still = λ d0 s0 moment k. phase_idle d0 d d2 s0 (Wanting c.in-Reading.held) moment c.read_head.result (subst (λ (x : Stage g.row.L.Denot). PausedOrChosen d0 s0 d (stage_now x) moment) c.in-Reading.is k) c.read_head.ensures.still;
-      decides = λ limits moment. subst (λ (x : Stage g.row.L.Denot). CameDecides limits moment d (stage_now x) net d2 c.read_head.result net) (sym c.in-Reading.is) (c.read_head.ensures.decides limits moment net);
+      out = λ yes. absurd (not_out (stage_now c.args.stage) _ (ap stage_now c.in-Reading.is) refl yes);
+      decides = λ limits moment h. subst (λ (x : Stage g.row.L.Denot). CameDecides limits moment d (stage_now x) net d2 c.read_head.result net) (sym c.in-Reading.is) (c.read_head.ensures.decides limits moment net);
       left = c.read_head.ensures.left;
       first = λ l x. c.read_head.ensures.first l (subst (λ (y : Stage g.row.L.Denot). IsFresh l d (stage_now y)) c.in-Reading.is x);
     }
@@ -55,7 +58,8 @@ returns-in-Answering g c =
       rooms = rooms_none g.S.HasHistory.history (room_of g.S.HasHistory.kept_from g.S.HasHistory.spare) c.args.seats.now;
       own = λ status taken k. own_here c.in-Answering.answering.status status d.client.taken_count taken d2 c.end_answering.result (sym (ap (λ (x : Stage g.row.L.Denot). own_seen (stage_now x)) c.in-Answering.is) ∙ k.1) k.0 c.end_answering.ensures.own;
       still = λ d0 s0 moment k. phase_idle d0 d d2 s0 (stage_of_answering c.in-Answering.answering) moment c.end_answering.result (subst (λ (x : Stage g.row.L.Denot). PausedOrChosen d0 s0 d (stage_now x) moment) c.in-Answering.is k) c.end_answering.ensures.still;
-      decides = λ limits moment. subst (λ (x : Stage g.row.L.Denot). CameDecides limits moment d (stage_now x) net d2 c.end_answering.result net) (sym c.in-Answering.is) (c.end_answering.ensures.decides limits moment net);
+      out = λ yes. absurd (not_out (stage_now c.args.stage) _ (ap stage_now c.in-Answering.is) refl yes);
+      decides = λ limits moment h. subst (λ (x : Stage g.row.L.Denot). CameDecides limits moment d (stage_now x) net d2 c.end_answering.result net) (sym c.in-Answering.is) (c.end_answering.ensures.decides limits moment net);
       left = c.end_answering.ensures.left;
       first = λ l x. absurd (answering_not _ x.held (sym (ap stage_now c.in-Answering.is) ∙ x.is));
     }
@@ -94,18 +98,19 @@ pub returns-in-Left-clause-still : goal.returns-in-Left-clause-still
 returns-in-Left-clause-still g c = λ d0 s0 moment k. absurd (subst (λ (x : Stage g.row.L.Denot). IsGood (stage_now x)) c.in-Left.is c.requires.placed.good)
 
 pub returns-in-Exchanging-clause-decides : goal.returns-in-Exchanging-clause-decides
-returns-in-Exchanging-clause-decides g c = λ limits moment.
+returns-in-Exchanging-clause-decides g c = λ limits moment h.
     let d : DeskNow = desk_now g.L.Link.state c.args.desk.now in
     let d2 : DeskNow = desk_now g.L.Link.state c.go_on.new.desk in
     subst (λ (x : Stage g.row.L.Denot). CameDecides limits moment d (stage_now x) (g.N.Net.state c.args.net.now) d2 c.go_on.result (g.N.Net.state c.go_on.new.net)) (sym c.in-Exchanging.is) (c.go_on.ensures.decides limits moment)
 
 pub returns-in-Choosing-clause-decides : goal.returns-in-Choosing-clause-decides
-returns-in-Choosing-clause-decides g c = λ limits moment.
+returns-in-Choosing-clause-decides g c = λ limits moment h.
     let d : DeskNow = desk_now g.L.Link.state c.args.desk.now in
     let d2 : DeskNow = desk_now g.L.Link.state c.go_out-stage.new.desk in
     let net : NetState = g.N.Net.state c.args.net.now in
     let net2 : NetState = g.N.Net.state c.go_out-stage.new.net in
-    own_moved limits moment d (stage_now c.args.stage) net d2 net2 c.go_out-stage.result 503 c.go_out-stage.ensures.own (unserved_answer limits moment d (stage_now c.args.stage) net net2)
+    let f = g.S.HasHistory.history in
+    own_lacks limits moment d (stage_now c.args.stage) net d2 net2 c.go_out-stage.result 503 c.go_out-stage.ensures.own (λ status is. unserved_answer limits moment d (stage_now c.args.stage) net net2 (h (subst (λ (x : Stage g.row.L.Denot). OutOf d.session (stage_now x) (map f c.args.seats.now) (map f c.go_out-stage.new.seats) net net2) (sym c.in-Choosing.is) (c.go_out-stage.ensures.lacks status is))))
 
 pub returns-in-Left-clause-decides : goal.returns-in-Left-clause-decides
-returns-in-Left-clause-decides g c = λ limits moment. not_there limits moment (desk_now g.L.Link.state c.args.desk.now) (stage_now c.args.stage) (g.N.Net.state c.args.net.now) _ (ap stage_now c.in-Left.is)
+returns-in-Left-clause-decides g c = λ limits moment h. not_there limits moment (desk_now g.L.Link.state c.args.desk.now) (stage_now c.args.stage) (g.N.Net.state c.args.net.now) _ (ap stage_now c.in-Left.is)

@@ -36,6 +36,6 @@ returns-in-None g c =
       own = λ status taken k. (ap (λ (x : DeskNow). x.client.taken_count) same ∙ k.0, k.1);
       left = tt;
       still = (same, refl);
-      decides = far_same d d2 s s net same refl;
+      decides = λ lack. far_same d d2 s s net same refl;
       first = λ f one. inl (fresh_desk (g.L.Link.state c.args.desk.now.client) d d2 s same f);
     }

@@ -21,6 +21,7 @@ use Rattle.hx_session.proofs.PausedLemmas.{turn_paused}
 use Rattle.hx_session.specs.Still.{WhereOn}
 use Rattle.hx_session.specs.Waiting.{IsPaused}
 use Rattle.hx_session.proofs.DecidedLemmas.{turn_far}
+use Rattle.hx_session.proofs.LackLemmas.{asks_on}
 use Rattle.hx_session.specs.Decided.{CameDecides}
 use Rattle.hx_session.proofs.phases.take_turn.Goals as goal
 
@@ -103,3 +104,10 @@ returns-clause-decides g c = λ limits moment d0 d s0 net0 net k.
     let h = g.S.HasHistory.history in
     turn_far d0 d s0 net0 net c.args.back.now.servers c.args.turn.now c.choose_server.new.turn (map h c.args.seats.now) (map h c.choose_server.new.seats) (stage_now c.in-On.stage) (stage_now c.choose_server.result)
     c.choose_server.ensures.chooses (subst (λ (x : Came g.row.L.Denot). CameDecides limits moment d0 s0 net0 d x net) c.in-On.is k)
+
+pub returns-clause-asks : goal.returns-clause-asks
+returns-clause-asks g c = λ d k v hs placed p.
+    let f = g.S.HasHistory.history in
+    let olds : List History = map f c.args.seats.now in
+    asks_on c.args.back.now.servers c.args.turn.now c.choose_server.new.turn d k v hs olds (map f c.choose_server.new.seats) c.in-On.stage c.in-On.waits (stage_now c.choose_server.result)
+    (subst (λ (x : Came g.row.L.Denot). CamePlaced d x olds) c.in-On.is placed) (subst (λ (x : Came g.row.L.Denot). Picks k v hs x olds) c.in-On.is p) c.choose_server.ensures.chooses

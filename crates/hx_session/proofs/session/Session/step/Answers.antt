@@ -1,3 +1,4 @@
+use Rattle.hx_connecting.specs.Choosing.{back_no}
 use Rattle.std.proofs.Common.{◌≡◌, Some, ◌∙◌, ◌<◌, arith, get_or, ℕ, List, length, map, refl, sym, ap, subst, true, None, ⊎_elim, inl, inr, ◌⊎◌}
 use Rattle.std.proofs.lemmas.List.{length-map}
 use Rattle.hx_config.specs.declared.config.Config.{Config}
@@ -51,16 +52,16 @@ use Rattle.hx_session.specs.Causes.{Limits, LeavesFor}
 use Rattle.hx_session.specs.Fits.{limits_with}
 use Rattle.hx_session.specs.Leaving.{LeavesBy}
 use Rattle.hx_session.proofs.LeavingLemmas.{leaves_for_cause, limits_same}
-use Rattle.hx_session.specs.Deciding.{KeepsOwn}
+use Rattle.hx_session.specs.Deciding.{KeepsOwn, LacksIn, OwnsAs}
 use Rattle.hx_session.specs.Owning.{DoneOwn, OwnAt}
 use Rattle.hx_session.proofs.OwningLemmas.{keeps_own}
 use Rattle.hx_session.specs.Standstill.{Stands}
 use Rattle.hx_session.specs.Waiting.{StandsStill}
 use Rattle.hx_session.proofs.IdleLemmas.{stands_so}
 use Rattle.hx_session.proofs.ExitLemmas.{done_stands}
-use Rattle.hx_session.proofs.DecidedLemmas.{cuts_for, never_own, owns_for}
-use Rattle.hx_session.specs.Decided.{DoneDecides}
-use Rattle.hx_session.specs.Deciding.{CutsAllFor, OwnsFor}
+use Rattle.hx_session.proofs.DecidedLemmas.{cuts_for, never_own, owns_for, owns_map}
+use Rattle.hx_session.specs.Decided.{DoneDecides, HasLack, limits_in, terms_of}
+use Rattle.hx_session.specs.Deciding.{CutsAllFor}
 use Rattle.hx_session.proofs.session.Session.step.Goals as goal
 
 pub advance-stage-requires : goal.advance-stage-requires
@@ -322,13 +323,17 @@ returns-clause-owns g c = λ going.
     let config = c.args.config.now in
     let now = c.args.now.0 in
     let scene = c.scene_of-scene in
-    let those = limits_with (Some scene.result.front.now) (Some scene.result.back.now) in
-    let k = subst (λ (m : Millis). DoneDecides those m.0 d s net d2 s2 net2 done.served) scene.ensures.now (subst (λ (x : Stage g.row.L.Denot). DoneDecides those scene.result.now.0 d (stage_now x) net d2 s2 net2 done.served) c.replace-stage.ensures.value c.advance-stage.ensures.decides) in
+    let those = terms_of (limits_with (Some scene.result.front.now) (Some scene.result.back.now)) c.advance-stage.ensures.decides.0 in
+    let k = subst (λ (m : Millis). DoneDecides those m.0 d s net d2 s2 net2 done.served) scene.ensures.now (subst (λ (x : Stage g.row.L.Denot). DoneDecides those scene.result.now.0 d (stage_now x) net d2 s2 net2 done.served) c.replace-stage.ensures.value c.advance-stage.ensures.decides.1) in
     let limits = limits_same (meaning config) front scene.result.front.now scene.result.back.now scene.ensures.front scene.ensures.back in
     let told = subst (λ (x : Stage g.row.L.Denot). DoneTells d (stage_now x) d2 s2 done.served done.left) c.replace-stage.ensures.value c.advance-stage.ensures.told in
-    subst (λ (x : SessionNow). OwnsFor (limits_of (meaning config) x.front) x (session_seen front d2 s2) net net2 now done.served) c.self.view_is
-    (subst (λ (l : Limits). OwnsFor l (session_seen front d s) (session_seen front d2 s2) net net2 now done.served) (sym limits)
-    (owns_for those now front d d2 s s2 net net2 done.served (never_own d d2 s s2 done.served done.left told) k))
+    let f = g.S.HasHistory.history in
+    let lacks = LacksIn (meaning config) front (map f c.args.seats.now) (map f c.advance-stage.new.seats) net net2 in
+    subst (λ (x : SessionNow). OwnsAs (limits_of (meaning config) x.front) (LacksIn (meaning config) x.front (map f c.args.seats.now) (map f c.advance-stage.new.seats) net net2) x (session_seen front d2 s2) net net2 now done.served) c.self.view_is
+    (subst (λ (l : Limits). OwnsAs l lacks (session_seen front d s) (session_seen front d2 s2) net net2 now done.served) (sym limits)
+    (owns_map (limits_in those) (HasLack those.lack) lacks (session_seen front d s) (session_seen front d2 s2) net net2 now done.served
+    (λ u h. (scene.result.front.now.back, scene.result.back.now, ap back_no scene.ensures.front, scene.ensures.back, c.advance-stage.ensures.decides.2 u h))
+    (owns_for those now front d d2 s s2 net net2 done.served (never_own d d2 s s2 done.served done.left told) k)))
 
 pub returns-clause-cuts : goal.returns-clause-cuts
 returns-clause-cuts g c = λ going.
@@ -343,8 +348,8 @@ returns-clause-cuts g c = λ going.
     let config = c.args.config.now in
     let now = c.args.now.0 in
     let scene = c.scene_of-scene in
-    let those = limits_with (Some scene.result.front.now) (Some scene.result.back.now) in
-    let k = subst (λ (m : Millis). DoneDecides those m.0 d s net d2 s2 net2 done.served) scene.ensures.now (subst (λ (x : Stage g.row.L.Denot). DoneDecides those scene.result.now.0 d (stage_now x) net d2 s2 net2 done.served) c.replace-stage.ensures.value c.advance-stage.ensures.decides) in
+    let those = terms_of (limits_with (Some scene.result.front.now) (Some scene.result.back.now)) c.advance-stage.ensures.decides.0 in
+    let k = subst (λ (m : Millis). DoneDecides those m.0 d s net d2 s2 net2 done.served) scene.ensures.now (subst (λ (x : Stage g.row.L.Denot). DoneDecides those scene.result.now.0 d (stage_now x) net d2 s2 net2 done.served) c.replace-stage.ensures.value c.advance-stage.ensures.decides.1) in
     let limits = limits_same (meaning config) front scene.result.front.now scene.result.back.now scene.ensures.front scene.ensures.back in
     subst (λ (x : SessionNow). CutsAllFor (limits_of (meaning config) x.front) x (session_seen front d2 s2) net net2 now done.served) c.self.view_is
     (subst (λ (l : Limits). CutsAllFor l (session_seen front d s) (session_seen front d2 s2) net net2 now done.served) (sym limits) (cuts_for those now front d d2 s s2 net net2 done.served k))

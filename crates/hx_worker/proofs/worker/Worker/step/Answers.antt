@@ -8,7 +8,10 @@ use Rattle.hx_connecting.specs.Holds.{HoldsAt}
 use Rattle.hx_connecting.specs.Journals.{room_of}
 use Rattle.hx_connecting.specs.Sessions.{SessionNow}
 use Rattle.hx_numbered.specs.Numbers.{with_value}
-use Rattle.hx_session.specs.Fits.{SeatsServe, TurnsFit}
+use Rattle.hx_session.proofs.DecidedLemmas.{owns_map}
+use Rattle.hx_session.specs.Deciding.{LacksIn}
+use Rattle.hx_session.specs.Fits.{SeatsServe, TurnsFit, limits_of}
+use Rattle.std.specs.Prelude.{⊤}
 use Rattle.hx_worker.specs.Workers.{WorkerNow, worker_now, HasSeats, session_of}
 use Rattle.hx_worker.specs.Listed.{sessions_of}
 use Rattle.hx_worker.specs.Steps.{Steps, StepsAt, IsTimely}
@@ -71,7 +74,7 @@ on g c =
     c.as_mut_slice-2.result.now i.turns.items c.step-step.new.turns ts.items (g.N.Net.state c.args.net.now) (g.N.Net.state c.step-step.new.net) c.args.n c.step-step.result
     c.in-Some.session.now c.step-step.new.self c.as_mut_slice.ensures.value c.as_mut_slice-2.ensures.value (sym a) (sym b) c.in-Some.ensures.value
     (record { same = e.same; adds = e.adds; links = e.links; chooses = e.chooses; tells = e.tells; keeps = e.keeps; ended = e.ended; turns = e.turns; going = e.going; left = e.left; holds = e.holds; serve = e.seats })
-    e.journals c.self.invariant.under c.self.invariant.has (record { first = e.first; owns = e.owns going; cuts = e.cuts going; leaves = e.leaves going; stands = λ still. e.stands still going }) (not_ended c.step-step.result.waits c.in-Nothing.is)
+    e.journals c.self.invariant.under c.self.invariant.has (record { first = e.first; owns = owns_map (limits_of (meaning i.config.now) c.in-Some.session.now.front) (LacksIn (meaning i.config.now) c.in-Some.session.now.front (map h c.as_mut_slice.result.now) (map h c.step-step.new.seats) (g.N.Net.state c.args.net.now) (g.N.Net.state c.step-step.new.net)) (λ u. ⊤) c.in-Some.session.now c.step-step.new.self (g.N.Net.state c.args.net.now) (g.N.Net.state c.step-step.new.net) c.args.now.0 c.step-step.result.served (λ u k. tt) (e.owns going); cuts = e.cuts going; leaves = e.leaves going; stands = λ still. e.stands still going }) (not_ended c.step-step.result.waits c.in-Nothing.is)
 
 -- where it is gone
 off : (g : _) (c : After-bury g)
@@ -90,7 +93,7 @@ off g c =
     c.as_mut_slice-2.result.now i.turns.items c.step-step.new.turns ts.items (g.N.Net.state c.args.net.now) (g.N.Net.state c.step-step.new.net) c.args.n c.step-step.result
     c.in-Some.session.now c.step-step.new.self c.as_mut_slice.ensures.value c.as_mut_slice-2.ensures.value (sym a) (sym b) c.in-Some.ensures.value
     (record { same = e.same; adds = e.adds; links = e.links; chooses = e.chooses; tells = e.tells; keeps = e.keeps; ended = e.ended; turns = e.turns; going = e.going; left = e.left; holds = e.holds; serve = e.seats })
-    e.journals c.self.invariant.under c.self.invariant.has (record { first = e.first; owns = e.owns going; cuts = e.cuts going; leaves = e.leaves going; stands = λ still. e.stands still going })
+    e.journals c.self.invariant.under c.self.invariant.has (record { first = e.first; owns = owns_map (limits_of (meaning i.config.now) c.in-Some.session.now.front) (LacksIn (meaning i.config.now) c.in-Some.session.now.front (map h c.as_mut_slice.result.now) (map h c.step-step.new.seats) (g.N.Net.state c.args.net.now) (g.N.Net.state c.step-step.new.net)) (λ u. ⊤) c.in-Some.session.now c.step-step.new.self (g.N.Net.state c.args.net.now) (g.N.Net.state c.step-step.new.net) c.args.now.0 c.step-step.result.served (λ u k. tt) (e.owns going); cuts = e.cuts going; leaves = e.leaves going; stands = λ still. e.stands still going })
     c.remove.new.self.items (g.N.Net.state c.bury.new.self) (g.L.Link.state c.end.result) c.in-Ended.is c.remove.ensures.rest
     (c.end.ensures
     ∙ ap (λ (s : SessionNow). s.client)
