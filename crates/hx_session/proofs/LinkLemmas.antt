@@ -97,6 +97,7 @@ records_at s s' a b left (Some r) same t = record {
   ask_rises = t.ask_rises;
   gave_rises = t.gave_rises;
   kind = kind_at s s' a b (leaves_for left) r r.kind same t.kind;
+  own = t.own;
   method = method_at s s'.client a b r r.kind same t.method;
   over = t.over;
   served = t.served;

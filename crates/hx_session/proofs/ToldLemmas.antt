@@ -26,7 +26,7 @@ use Rattle.hx_session.specs.Seen.{conn_seen, over_seen, own_seen, session_seen}
 use Rattle.hx_session.specs.Stages.{StageNow, Reading, Choosing, Exchanging, Answering, Left, IsAnswering, own_stage}
 use Rattle.hx_session.specs.Standing.{IsDone, IsGone, IsSound}
 use Rattle.hx_session.specs.Stopping.{ServesAtStop, StopsKind}
-use Rattle.hx_session.specs.Telling.{CarriesSame, TellsOne, IsToldOwn, IsOfStage, LeavesWith, DoneTells, StopsStage, StopTells, KindTold, RecordTold, RecordsTold, conn_told, LeavesWithout, StepTold, StopTold, finished_by, stopped}
+use Rattle.hx_session.specs.Telling.{CarriesSame, TellsOne, IsToldOwn, IsOfStage, LeavesWith, DoneTells, StopsStage, StopTells, KindTold, RecordTold, RecordsTold, WasDecided, conn_told, LeavesWithout, StepTold, StopTold, finished_by, stopped}
 use Rattle.hx_session.proofs.RecordLemmas.{by_options, told_stands}
 use Rattle.hx_session.proofs.TellLemmas.{link_same, link_then, own_gave, own_of, told_on, of_on, own_on, plain_finish, reading_none, choosing_none, left_none}
 
@@ -80,6 +80,16 @@ method_told front d d' (Exchanging e) why r (kind.Passed c) same h = λ b is.
     of_stands d'.client e.busy.link b.exchange.method r c
     (subst (λ (m : MethodKind). IsToldOf d'.client e.busy.link m r c) (some_busy e.busy b is) (of_on d.client d'.client e.busy.link e.busy.exchange.method r c same h.2))
 
+-- an own answer whose record is given was decided
+own_told : (front : ℕ) (d : DeskNow) (s : StageNow) (why : LeftCause) (r : Served) (k : Kind) → IsOfStage s d why r k → WasDecided (session_seen front d s) k
+own_told front d s why r (kind.Passed c) h = tt
+own_told front d s why r (kind.Cut c w) h = tt
+own_told front d (Answering a) why r (kind.Own status) h = ap Some (sym h.0)
+own_told front d (Reading held) why r (kind.Own status) h = absurd h
+own_told front d (Choosing c) why r (kind.Own status) h = absurd h
+own_told front d (Exchanging e) why r (kind.Own status) h = absurd h
+own_told front d Left why r (kind.Own status) h = absurd h
+
 -- the record as the worker sees it
 record_told : (front : ℕ) (d d' : DeskNow) (s s' : StageNow) (left : Option Leave) (r : Served) → 1 ≤ d.number → TellsOne d d' r → IsOfStage s d (leaves_for left) r r.kind
     → ((status : ℕ) → r.kind ≡ kind.Own status → own_seen s' ≡ None) → HasNoExchange (conn_seen s') → EndsSession (ends_after r.kind) left → RecordTold (session_seen front d s) (session_seen front d' s') (conn_told (conn_seen s)) left r
@@ -92,6 +102,7 @@ record_told front d d' s s' left r some one of own over ends = record {
   ask_rises = one.ask_rises;
   gave_rises = one.gave_rises;
   kind = kind_told front d d' s (session_seen front d' s') (leaves_for left) r r.kind refl one.client of own;
+  own = own_told front d s (leaves_for left) r r.kind of;
   method = method_told front d d' s (leaves_for left) r r.kind one.client of;
   over = over;
   served = omega (arith, one.next, some);
@@ -221,6 +232,7 @@ stop_record front d d1 d' s r left some stop same t = record {
   gave_rises = t.0.gave_rises;
   kind = kind_told front d d' s (stopped (session_seen front d s) d'.client (Some r)) left.cause r r.kind refl (link_then d.client d1.client d'.client t.0.client same)
       (subst (λ (w : LeftCause). IsOfStage s d w r r.kind) (sym stop) t.1) (λ status is. refl);
+  own = own_told front d s cause.Stop r r.kind t.1;
   method = method_told front d d' s cause.Stop r r.kind (link_then d.client d1.client d'.client t.0.client same) t.1;
   over = tt;
   served = refl;

@@ -1,5 +1,5 @@
 -- That what a step decided has its cause.
-use Rattle.std.specs.Prelude.{◌≡◌, ◌⊎◌, ℕ, Option, Some, None, IfSome, slice_get, ⊤, List}
+use Rattle.std.specs.Prelude.{◌≡◌, ◌⊎◌, ℕ, Option, Some, None, IfSome, slice_get, List}
 use Rattle.hx_base.specs.Counts.{Rose}
 use Rattle.hx_config.specs.Meaning.{Meaning}
 use Rattle.hx_pool.specs.SeatView.{History}
@@ -61,10 +61,6 @@ abbrev pub LacksIn : Meaning → ℕ → List History → List History → NetSt
 LacksIn config front olds news net net' u =
     (b : ℕ) × (terms : Back) × (back_no (slice_get config.fronts front) ≡ Some b) × (slice_get config.backs b ≡ Some terms)
     × LacksAt terms.servers olds news net net' u
-
--- each own answer of a call at a moment has its cause, but for the one that no server took the request
-abbrev pub OwnsFor : Limits → SessionNow → SessionNow → NetState → NetState → ℕ → Option Served → Type 0
-OwnsFor limits s s' net net' now served = DecidesNew (Decides limits s net net' now (λ u. ⊤)) s s' served
 
 -- and so has each cut
 abbrev pub CausesCut : Limits → SessionNow → LinkState → NetState → NetState → ℕ → BusyNow → CutCause → Type 0

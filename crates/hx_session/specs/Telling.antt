@@ -185,6 +185,12 @@ KindTold s s' conn why r (kind.Passed c) = KindStands s s' conn why r (kind.Pass
 KindTold s s' conn why r (kind.Cut c w) = KindStands s s' conn why r (kind.Cut c w)
 KindTold s s' conn why r (kind.Own status) = KindStands s s' conn why r (kind.Own status)
 
+-- an own answer whose record is given was decided before the call
+abbrev pub WasDecided : SessionNow → Kind → Type 0
+WasDecided s (kind.Passed c) = ⊤
+WasDecided s (kind.Cut c why) = ⊤
+WasDecided s (kind.Own status) = s.own ≡ Some status
+
 pub record RecordTold (s s' : SessionNow) (conn : Option What) (left : Option Leave) (r : Served) : Type 0 where
   pub worker : r.worker ≡ s.worker
   pub session : r.session ≡ s.number
@@ -194,6 +200,7 @@ pub record RecordTold (s s' : SessionNow) (conn : Option What) (left : Option Le
   pub ask_rises : r.ask.from ≤ r.ask.to
   pub gave_rises : r.gave.from ≤ r.gave.to
   pub kind : KindTold s s' conn (leaves_for left) r r.kind
+  pub own : WasDecided s r.kind
   pub method : IsOfMethod s s'.client conn r r.kind
   -- with it no exchange is under way any more
   pub over : HasNoExchange s'.conn

@@ -15,8 +15,9 @@ use Rattle.hx_connecting.specs.Journals.{JournalRoom, JournalsStay}
 use Rattle.hx_connecting.specs.Sessions.{SessionNow, Around, around_with, is_first}
 use Rattle.hx_connecting.specs.Touches.{most_marks}
 use Rattle.hx_numbered.specs.Numbers.{value_of, with_value, removed}
-use Rattle.hx_session.specs.Deciding.{KeepsOwn}
-use Rattle.hx_session.specs.Fits.{IsGoing, TurnsFit, SeatsServe}
+use Rattle.hx_record.specs.declared.served.Served.{Served}
+use Rattle.hx_session.specs.Deciding.{KeepsOwn, LacksIn, OwnsAs}
+use Rattle.hx_session.specs.Fits.{IsGoing, TurnsFit, SeatsServe, limits_of}
 use Rattle.hx_session.specs.Kept.{IsSameStep, IsStopped}
 use Rattle.hx_session.specs.Linking.{StepLinks, StopLinks}
 use Rattle.hx_session.specs.Marking.{AddsMarks}
@@ -100,6 +101,14 @@ settled {S} h xs ys xs' ys' ts us ts' us' config s a net mid r e f g k x =
 pub settled_rooms : {S : Type 0} (f : S → JournalRoom) (k : ℕ) (xs ys xs' ys' : List S) → xs ≡ ys → xs' ≡ ys' → JournalsStay k (map f xs) (map f xs') → JournalsStay k (map f ys) (map f ys')
 settled_rooms {S} f k xs ys xs' ys' a b j =
     subst (λ (l : List S). JournalsStay k (map f l) (map f ys')) a (subst (λ (l : List S). JournalsStay k (map f xs) (map f l)) b j)
+
+-- the causes of a step's own answers, told of the seats where they stand
+pub settled_owns : (config : Meaning) (s a : SessionNow) (hs ks hs' ks' : List History) (net m : NetState) (now : ℕ) (served : Option Served) → hs ≡ ks → hs' ≡ ks'
+    → OwnsAs (limits_of config s.front) (LacksIn config s.front hs hs' net m) s a net m now served
+    → OwnsAs (limits_of config s.front) (LacksIn config s.front ks ks' net m) s a net m now served
+settled_owns config s a hs ks hs' ks' net m now served e f o =
+    subst (λ (l : List History). OwnsAs (limits_of config s.front) (LacksIn config s.front ks l net m) s a net m now served) f
+    (subst (λ (l : List History). OwnsAs (limits_of config s.front) (LacksIn config s.front l hs' net m) s a net m now served) e o)
 
 -- a session of the worker goes on
 pub going_there : (items : List (ℕ × SessionNow)) (n : ℕ) (s : SessionNow) (t : ThreadNo) (config : Meaning) {hs : List History} {js : List JournalRoom} {ts : List ℕ} {last : ℕ} → AreUnderTheirs items

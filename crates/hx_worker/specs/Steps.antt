@@ -11,7 +11,8 @@ use Rattle.hx_connecting.specs.Journals.{JournalsStay}
 use Rattle.hx_connecting.specs.Links.{GainsAll}
 use Rattle.hx_connecting.specs.Sessions.{SessionNow, Around, around_with}
 use Rattle.hx_connecting.specs.Touches.{Touch, most_marks}
-use Rattle.hx_session.specs.Deciding.{CutsAllFor, KeepsOwn, OwnsFor}
+use Rattle.hx_record.specs.declared.served.Served.{Served}
+use Rattle.hx_session.specs.Deciding.{CutsAllFor, KeepsOwn, LacksIn, OwnsAs}
 use Rattle.hx_session.specs.Doings.{Doing}
 use Rattle.hx_session.specs.Kept.{IsSameStep}
 use Rattle.hx_session.specs.Linking.{StepLinks}
@@ -43,12 +44,17 @@ pub record SessionStep (config : Meaning) (s s' : SessionNow) (before after : Ar
   pub keeps : KeepsOwn s s' r.served
   pub ended : (r.waits ≡ Ended → s'.over ≡ true) × (s'.over ≡ true → r.waits ≡ Ended)
 
+-- each own answer of a step has its cause, by what the step made of the seats and of the net where no server took the request
+abbrev pub StepOwns : Meaning → SessionNow → SessionNow → Around → Around → ℕ → Option Served → Type 0
+StepOwns config s s' before after now served =
+    OwnsAs (limits_of config s.front) (LacksIn config s.front before.seats after.seats before.net after.net) s s' before.net after.net now served
+
 -- and by its moment: its first one reads its client's link, or that client's timeout can have come; each own answer and each
 -- cut is for its cause, and so is the session's end; and where nothing moved the session had to wait, with nothing left to do
-pub record IsTimely (config : Meaning) (s s' : SessionNow) (net net' : NetState) (now : ℕ) (r : Step) : Type 0 where
+pub record IsTimely (config : Meaning) (s s' : SessionNow) (before after : Around) (now : ℕ) (r : Step) : Type 0 where
   pub first : IsNew s → ReadsFirst s s' ⊎ CanBeLate (limits_of config s.front).client s now
-  pub owns : OwnsFor (limits_of config s.front) s s' net net' now r.served
-  pub cuts : CutsAllFor (limits_of config s.front) s s' net net' now r.served
+  pub owns : StepOwns config s s' before after now r.served
+  pub cuts : CutsAllFor (limits_of config s.front) s s' before.net after.net now r.served
   pub leaves : IfSome r.left (λ l. LeavesFor (limits_of config s.front) s s' r.served now l.cause)
   pub stands : r.moved ≡ false → Stands s s' now
 
@@ -102,4 +108,4 @@ pub record Steps (w w' : WorkerNow) (net net' : NetState) (n : SessionNo) (r : S
 
 -- the same, at that moment
 abbrev pub StepsAt : WorkerNow → WorkerNow → NetState → NetState → SessionNo → ℕ → Step → Type 0
-StepsAt w w' net net' n now r = (k : Steps w w' net net' n r) × IsTimely w.config k.session k.after net k.mid now r
+StepsAt w w' net net' n now r = (k : Steps w w' net net' n r) × IsTimely w.config k.session k.after (around_of w net) (around_of w' k.mid) now r

@@ -6,18 +6,15 @@ use Rattle.hx_config.specs.Limits.{all_servers}
 use Rattle.hx_config.specs.Views.{meaning}
 use Rattle.hx_connecting.specs.Holds.{HoldsAt}
 use Rattle.hx_connecting.specs.Journals.{room_of}
-use Rattle.hx_connecting.specs.Sessions.{SessionNow}
+use Rattle.hx_connecting.specs.Sessions.{SessionNow, around_with}
 use Rattle.hx_numbered.specs.Numbers.{with_value}
-use Rattle.hx_session.proofs.DecidedLemmas.{owns_map}
-use Rattle.hx_session.specs.Deciding.{LacksIn}
-use Rattle.hx_session.specs.Fits.{SeatsServe, TurnsFit, limits_of}
-use Rattle.std.specs.Prelude.{⊤}
+use Rattle.hx_session.specs.Fits.{SeatsServe, TurnsFit}
 use Rattle.hx_worker.specs.Workers.{WorkerNow, worker_now, HasSeats, session_of}
 use Rattle.hx_worker.specs.Listed.{sessions_of}
 use Rattle.hx_worker.specs.Steps.{Steps, StepsAt, IsTimely}
 use Rattle.hx_worker.proofs.Items.{value_is, with_found}
 use Rattle.hx_worker.proofs.Keeping.{may_call, none_there}
-use Rattle.hx_worker.proofs.Stepping.{going_there, StepDone, stays_here, gone_here, taken_out, not_ended}
+use Rattle.hx_worker.proofs.Stepping.{going_there, settled_owns, StepDone, stays_here, gone_here, taken_out, not_ended}
 use Rattle.hx_worker.proofs.worker.Worker.step.Goals as goal
 use Rattle.hx_worker.proofs.worker.Worker.step.Goals.{After-bury, In-Nothing}
 
@@ -59,7 +56,7 @@ end-requires g c =
 
 -- where the session goes on
 on : (g : _) (c : In-Nothing g)
-    → StepDone (λ s a m. IsTimely (meaning c.self.inside.config.now) s a (g.N.Net.state c.args.net.now) m c.args.now.0 c.step-step.result) (worker_now c.self.inside.thread (meaning c.self.inside.config.now) (map g.S.HasHistory.history c.self.inside.seats.items)
+    → StepDone (λ s a m. IsTimely (meaning c.self.inside.config.now) s a (around_with (map g.S.HasHistory.history c.self.inside.seats.items) c.self.inside.turns.items (g.N.Net.state c.args.net.now)) (around_with (map g.S.HasHistory.history (with_items c.self.inside.seats c.step-step.new.seats).items) (with_items c.self.inside.turns c.step-step.new.turns).items m) c.args.now.0 c.step-step.result) (worker_now c.self.inside.thread (meaning c.self.inside.config.now) (map g.S.HasHistory.history c.self.inside.seats.items)
     (map (room_of g.S.HasHistory.kept_from g.S.HasHistory.spare) c.self.inside.seats.items) c.self.inside.turns.items c.self.inside.last (sessions_of c.self.inside.sessions.items))
     (worker_now c.self.inside.thread (meaning c.self.inside.config.now) (map g.S.HasHistory.history (with_items c.self.inside.seats c.step-step.new.seats).items)
     (map (room_of g.S.HasHistory.kept_from g.S.HasHistory.spare) (with_items c.self.inside.seats c.step-step.new.seats).items) (with_items c.self.inside.turns c.step-step.new.turns).items c.self.inside.last (sessions_of (with_value c.self.inside.sessions.items c.args.n.0 c.step-step.new.self)))
@@ -70,15 +67,22 @@ on g c =
     let a = with_items_is i.seats c.step-step.new.seats (e.sizes.0 ∙ c.as_mut_slice.ensures.len) in
     let b = with_items_is i.turns c.step-step.new.turns (e.sizes.1 ∙ c.as_mut_slice-2.ensures.len) in
     let going = going_there i.sessions.items c.args.n.0 c.in-Some.session.now _ (meaning i.config.now) c.self.invariant.under c.self.invariant.has c.in-Some.ensures.value in
-    stays_here (λ s a m. IsTimely (meaning c.self.inside.config.now) s a (g.N.Net.state c.args.net.now) m c.args.now.0 c.step-step.result) h f i.thread (meaning i.config.now) i.last i.sessions.items c.as_mut_slice.result.now i.seats.items c.step-step.new.seats xs.items
+    stays_here (λ s a m. IsTimely (meaning c.self.inside.config.now) s a (around_with (map g.S.HasHistory.history c.self.inside.seats.items) c.self.inside.turns.items (g.N.Net.state c.args.net.now)) (around_with (map g.S.HasHistory.history (with_items c.self.inside.seats c.step-step.new.seats).items) (with_items c.self.inside.turns c.step-step.new.turns).items m) c.args.now.0 c.step-step.result) h f i.thread (meaning i.config.now) i.last i.sessions.items c.as_mut_slice.result.now i.seats.items c.step-step.new.seats xs.items
     c.as_mut_slice-2.result.now i.turns.items c.step-step.new.turns ts.items (g.N.Net.state c.args.net.now) (g.N.Net.state c.step-step.new.net) c.args.n c.step-step.result
     c.in-Some.session.now c.step-step.new.self c.as_mut_slice.ensures.value c.as_mut_slice-2.ensures.value (sym a) (sym b) c.in-Some.ensures.value
     (record { same = e.same; adds = e.adds; links = e.links; chooses = e.chooses; tells = e.tells; keeps = e.keeps; ended = e.ended; turns = e.turns; going = e.going; left = e.left; holds = e.holds; serve = e.seats })
-    e.journals c.self.invariant.under c.self.invariant.has (record { first = e.first; owns = owns_map (limits_of (meaning i.config.now) c.in-Some.session.now.front) (LacksIn (meaning i.config.now) c.in-Some.session.now.front (map h c.as_mut_slice.result.now) (map h c.step-step.new.seats) (g.N.Net.state c.args.net.now) (g.N.Net.state c.step-step.new.net)) (λ u. ⊤) c.in-Some.session.now c.step-step.new.self (g.N.Net.state c.args.net.now) (g.N.Net.state c.step-step.new.net) c.args.now.0 c.step-step.result.served (λ u k. tt) (e.owns going); cuts = e.cuts going; leaves = e.leaves going; stands = λ still. e.stands still going }) (not_ended c.step-step.result.waits c.in-Nothing.is)
+    e.journals c.self.invariant.under c.self.invariant.has (record {
+      first = e.first;
+      owns = settled_owns (meaning i.config.now) c.in-Some.session.now c.step-step.new.self _ _ _ _ (g.N.Net.state c.args.net.now) (g.N.Net.state c.step-step.new.net) c.args.now.0 c.step-step.result.served
+          (ap (map h) c.as_mut_slice.ensures.value) (ap (map h) (sym a)) (e.owns going);
+      cuts = e.cuts going;
+      leaves = e.leaves going;
+      stands = λ still. e.stands still going;
+    }) (not_ended c.step-step.result.waits c.in-Nothing.is)
 
 -- where it is gone
 off : (g : _) (c : After-bury g)
-    → StepDone (λ s a m. IsTimely (meaning c.self.inside.config.now) s a (g.N.Net.state c.args.net.now) m c.args.now.0 c.step-step.result) (worker_now c.self.inside.thread (meaning c.self.inside.config.now) (map g.S.HasHistory.history c.self.inside.seats.items)
+    → StepDone (λ s a m. IsTimely (meaning c.self.inside.config.now) s a (around_with (map g.S.HasHistory.history c.self.inside.seats.items) c.self.inside.turns.items (g.N.Net.state c.args.net.now)) (around_with (map g.S.HasHistory.history (with_items c.self.inside.seats c.step-step.new.seats).items) (with_items c.self.inside.turns c.step-step.new.turns).items m) c.args.now.0 c.step-step.result) (worker_now c.self.inside.thread (meaning c.self.inside.config.now) (map g.S.HasHistory.history c.self.inside.seats.items)
     (map (room_of g.S.HasHistory.kept_from g.S.HasHistory.spare) c.self.inside.seats.items) c.self.inside.turns.items c.self.inside.last (sessions_of c.self.inside.sessions.items))
     (worker_now c.self.inside.thread (meaning c.self.inside.config.now) (map g.S.HasHistory.history (with_items c.self.inside.seats c.step-step.new.seats).items)
     (map (room_of g.S.HasHistory.kept_from g.S.HasHistory.spare) (with_items c.self.inside.seats c.step-step.new.seats).items) (with_items c.self.inside.turns c.step-step.new.turns).items c.self.inside.last (sessions_of c.remove.new.self.items))
@@ -89,11 +93,18 @@ off g c =
     let a = with_items_is i.seats c.step-step.new.seats (e.sizes.0 ∙ c.as_mut_slice.ensures.len) in
     let b = with_items_is i.turns c.step-step.new.turns (e.sizes.1 ∙ c.as_mut_slice-2.ensures.len) in
     let going = going_there i.sessions.items c.args.n.0 c.in-Some.session.now _ (meaning i.config.now) c.self.invariant.under c.self.invariant.has c.in-Some.ensures.value in
-    gone_here (λ s a m. IsTimely (meaning c.self.inside.config.now) s a (g.N.Net.state c.args.net.now) m c.args.now.0 c.step-step.result) h f i.thread (meaning i.config.now) i.last i.sessions.items c.as_mut_slice.result.now i.seats.items c.step-step.new.seats xs.items
+    gone_here (λ s a m. IsTimely (meaning c.self.inside.config.now) s a (around_with (map g.S.HasHistory.history c.self.inside.seats.items) c.self.inside.turns.items (g.N.Net.state c.args.net.now)) (around_with (map g.S.HasHistory.history (with_items c.self.inside.seats c.step-step.new.seats).items) (with_items c.self.inside.turns c.step-step.new.turns).items m) c.args.now.0 c.step-step.result) h f i.thread (meaning i.config.now) i.last i.sessions.items c.as_mut_slice.result.now i.seats.items c.step-step.new.seats xs.items
     c.as_mut_slice-2.result.now i.turns.items c.step-step.new.turns ts.items (g.N.Net.state c.args.net.now) (g.N.Net.state c.step-step.new.net) c.args.n c.step-step.result
     c.in-Some.session.now c.step-step.new.self c.as_mut_slice.ensures.value c.as_mut_slice-2.ensures.value (sym a) (sym b) c.in-Some.ensures.value
     (record { same = e.same; adds = e.adds; links = e.links; chooses = e.chooses; tells = e.tells; keeps = e.keeps; ended = e.ended; turns = e.turns; going = e.going; left = e.left; holds = e.holds; serve = e.seats })
-    e.journals c.self.invariant.under c.self.invariant.has (record { first = e.first; owns = owns_map (limits_of (meaning i.config.now) c.in-Some.session.now.front) (LacksIn (meaning i.config.now) c.in-Some.session.now.front (map h c.as_mut_slice.result.now) (map h c.step-step.new.seats) (g.N.Net.state c.args.net.now) (g.N.Net.state c.step-step.new.net)) (λ u. ⊤) c.in-Some.session.now c.step-step.new.self (g.N.Net.state c.args.net.now) (g.N.Net.state c.step-step.new.net) c.args.now.0 c.step-step.result.served (λ u k. tt) (e.owns going); cuts = e.cuts going; leaves = e.leaves going; stands = λ still. e.stands still going })
+    e.journals c.self.invariant.under c.self.invariant.has (record {
+      first = e.first;
+      owns = settled_owns (meaning i.config.now) c.in-Some.session.now c.step-step.new.self _ _ _ _ (g.N.Net.state c.args.net.now) (g.N.Net.state c.step-step.new.net) c.args.now.0 c.step-step.result.served
+          (ap (map h) c.as_mut_slice.ensures.value) (ap (map h) (sym a)) (e.owns going);
+      cuts = e.cuts going;
+      leaves = e.leaves going;
+      stands = λ still. e.stands still going;
+    })
     c.remove.new.self.items (g.N.Net.state c.bury.new.self) (g.L.Link.state c.end.result) c.in-Ended.is c.remove.ensures.rest
     (c.end.ensures
     ∙ ap (λ (s : SessionNow). s.client)
