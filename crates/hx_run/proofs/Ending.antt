@@ -3,6 +3,7 @@ use Rattle.std.proofs.Common.{◌≡◌, ℕ, zero, suc, ◌+◌, ◌<◌, ◌�
 use Rattle.std.specs.Prelude.{slice_get, true, ◌==◌, reverse}
 use Rattle.std.proofs.lemmas.Bool.{eqb-true, and_parts}
 use Rattle.std.proofs.lemmas.List.{append-nil}
+use Rattle.hx_base.specs.declared.numbers.Millis.{Millis}
 use Rattle.hx_base.specs.declared.numbers.PlaceNo.{PlaceNo}
 use Rattle.hx_base.specs.declared.plan.Plan.{Plan}
 use Rattle.hx_base.specs.declared.what.What.{What}
@@ -27,9 +28,10 @@ use Rattle.hx_record.specs.declared.served.Told.{Told}
 use Rattle.hx_worker.specs.Workers.{WorkerNow, Each, new_worker}
 use Rattle.hx_run.specs.Begins.{BeginsFor, BeginFor}
 use Rattle.hx_planned.proofs.BeginPlans.{plans_begin}
+use Rattle.hx_script_parts.specs.Meaning.{Meaning as Script}
 use Rattle.hx_script_parts.specs.declared.script.ClientLine.{ClientLine}
 use Rattle.hx_run.proofs.Coursing.{Has}
-use Rattle.hx_run.specs.Courses.{ComesAll, EndsCourse, EndsPlanned, HasCourse, MakesAll, MakesFewer, plan_of}
+use Rattle.hx_run.specs.Courses.{ComesIn, EndsCourse, EndsPlanned, HasCourse, MakesAll, MakesFewer, plan_of}
 use Rattle.hx_run.specs.Dues.{ComeInOrder}
 use Rattle.hx_run.specs.Overs.{AllClosed, ClosedBelow}
 use Rattle.hx_run.specs.Runs.{IsWorking, RunNow}
@@ -65,9 +67,9 @@ number_at k (x ∷ ss) (suc i) s n e =
     let r = number_at (k + 1) ss i s (and_parts (x.no.0 == k) (are_numbered (k + 1) ss) n).1 e in
     omega (arith, r)
 
-pub begins_course : (config : Meaning) (hs : List History) (js : List JournalRoom) (plans : List Plan) (room : ℕ) (net : MemoryNetNow) → are_numbered 0 (all_servers config.backs) ≡ true
-    → BeginFor (all_servers config.backs) hs → net ≡ new_net plans room → Has plans [] (new_worker first_thread config hs js) net.state [] 0
-begins_course config hs js plans room net numbered b is =
+pub begins_course : (config : Meaning) (hs : List History) (js : List JournalRoom) (plans : List Plan) (moments : List Millis) (room : ℕ) (net : MemoryNetNow) → are_numbered 0 (all_servers config.backs) ≡ true
+    → BeginFor (all_servers config.backs) hs → net ≡ new_net plans room → Has plans moments [] (new_worker first_thread config hs js) net.state [] 0
+begins_course config hs js plans moments room net numbered b is =
     let state : net.state ≡ (new_net plans room).state = ap (λ (n : MemoryNetNow). n.state) is in
     let unused : (i : ℕ) (h : History) → slice_get hs i ≡ Some h → h.seen ≡ [] = λ i h e. (begun_at (all_servers config.backs) hs i h b e).begins.unused.seen in (
       [],
@@ -79,7 +81,7 @@ begins_course config hs js plans room net numbered b is =
           unused
           (inl (ap (λ (n : NetState). n.buried) state)) (inl (ap (λ (n : NetState). n.dials) state)),
       plans_begin first_thread config hs js net.state (record { plans = plans; failing = None }) unused (ap (λ (n : NetState). n.course) state) (inl (ap (λ (n : NetState). n.dials) state)),
-      subst (λ (n : NetState). Makes plans (new_worker first_thread config hs js) n 0) (sym state) (is_new config hs js room b),
+      subst (λ (n : NetState). Makes plans moments [] (new_worker first_thread config hs js) n [] [] 0) (sym state) (is_new config hs js room b),
     )
 
 -- ---- the end
@@ -149,23 +151,24 @@ nothing_left w k none c = record {
       (c server.0 r.seat (there_below w.seats server.0 r.seat r.at) r.at) id.0 r.place r.rests;
 }
 
-pub ends_course : (plans came : List Plan) (w : WorkerNow) (net : NetState) (records : List Told) (turns : ℕ) → IsWorking w → w.sessions ≡ [] → ClosedBelow (length w.seats) w.seats
-    → Has plans came w net records turns → EndsCourse records net
-ends_course plans came w net records turns k none c h = record { worker = w; graves = h.0; course = h.1; empty = nothing_left w k none c }
+pub ends_course : (plans : List Plan) (moments : List Millis) (came : List ClientLine) (w : WorkerNow) (net : NetState) (records : List Told) (turns : ℕ) → IsWorking w → w.sessions ≡ [] → ClosedBelow (length w.seats) w.seats
+    → Has plans moments came w net records turns → EndsCourse records net
+ends_course plans moments came w net records turns k none c h = record { worker = w; graves = h.0; course = h.1; empty = nothing_left w k none c }
 
 -- and each client came
-pub ends_planned : (clients ordered : List ClientLine) (plans : List Plan) (w : WorkerNow) (net : NetState) (records : List Told) (turns : ℕ) → IsWorking w → w.sessions ≡ [] → ClosedBelow (length w.seats) w.seats → ComeInOrder clients ordered
-    → Has plans (map plan_of ordered) w net records turns → EndsPlanned clients plans records net
-ends_planned clients ordered plans w net records turns k none c order h = record { ordered = ordered; in_order = order; worker = w; one = k.thread; graves = h.0; course = h.1; empty = nothing_left w k none c; follows = h.2 }
+pub ends_planned : (clients ordered : List ClientLine) (plans : List Plan) (moments : List Millis) (w : WorkerNow) (net : NetState) (records : List Told) (turns : ℕ) → IsWorking w → w.sessions ≡ [] → ClosedBelow (length w.seats) w.seats
+    → ComeInOrder clients ordered → Has plans moments ordered w net records turns → EndsPlanned clients plans records net
+ends_planned clients ordered plans moments w net records turns k none c order h = record { ordered = ordered; in_order = order; worker = w; one = k.thread; graves = h.0; course = h.1; empty = nothing_left w k none c; follows = h.2 }
 
 -- each client came, and fewer turns were made than may be
-pub makes_fewer : (config : Meaning) (clients ordered : List ClientLine) (plans : List Plan) (most : ℕ) (net : NetState) (r : RunNow) → r.worker.config ≡ config → ComeInOrder clients ordered
-    → HasCourse plans (map plan_of ordered) r → r.worker.sessions ≡ [] → net ≡ r.net.state → r.turns < most → MakesFewer config clients plans most net
-makes_fewer config clients ordered plans most net r is order h none left few = record {
+pub makes_fewer : (script : Script) (ordered : List ClientLine) (most : ℕ) (records : List Told) (net : NetState) (r : RunNow) → r.worker.config ≡ script.config → ComeInOrder script.clients ordered
+    → HasCourse script.plans script.moments ordered r → r.worker.sessions ≡ [] → records ≡ r.records → net ≡ r.net.state → r.turns < most → MakesFewer script most records net
+makes_fewer script ordered most records net r is order h none told left few = record {
   run = r;
   replays = record { config_is = is; ordered = ordered; in_order = order; due = []; come = (ordered, sym (append-nil ordered), h) };
   whole = refl;
   over = none;
+  told = sym told;
   left = sym left;
   fewer = few;
 }
@@ -177,10 +180,10 @@ same_error {E = E} e f is =
     ap (λ (x : E). Err x) same
 
 -- all turns were made that may be, before or behind the last client
-pub makes_all : (config : Meaning) (clients ordered due left : List ClientLine) (plans : List Plan) (most : ℕ) (a b : RunNow) → HasCourse plans [] a → ComeInOrder clients ordered → ordered ≡ reverse due
-    → ComesAll a due b left → b.worker.config ≡ config → b.turns ≡ most → MakesAll config clients plans most
-makes_all config clients ordered due left plans most a b begun order is comes config_is all = record {
+pub makes_all : (script : Script) (ordered due left : List ClientLine) (most : ℕ) (a b : RunNow) → HasCourse script.plans script.moments [] a → ComeInOrder script.clients ordered → ordered ≡ reverse due
+    → ComesIn script.moments a due b left → b.worker.config ≡ script.config → b.turns ≡ most → MakesAll script most
+makes_all script ordered due left most a b begun order is comes config_is all = record {
   run = b;
-  replays = record { config_is = config_is; ordered = ordered; in_order = order; due = left; come = comes plans ordered ([], is, begun) };
+  replays = record { config_is = config_is; ordered = ordered; in_order = order; due = left; come = comes script.plans ordered ([], is, begun) };
   all = all;
 }

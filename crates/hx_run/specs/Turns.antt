@@ -1,5 +1,6 @@
--- How many turns a replay made: the steps that moved, counted over all calls of its worker from a new one on.
-use Rattle.std.specs.Prelude.{◌≡◌, ℕ, ◌+◌, Bool, true, false, List, Some, None}
+-- The calls that a replay made from a new worker on: what each of them told and buried, at which moment, and how many turns they were,
+-- the steps that moved.
+use Rattle.std.specs.Prelude.{◌≡◌, ℕ, ◌+◌, Bool, true, false, List, [], ◌∷◌, ◌++◌, Contains, Some, None}
 use Rattle.hx_base.specs.declared.numbers.Millis.{Millis}
 use Rattle.hx_base.specs.declared.numbers.SessionNo.{SessionNo}
 use Rattle.hx_base.specs.declared.order.Order.{Order}
@@ -12,7 +13,13 @@ use Rattle.hx_link.specs.Nets.{NetState, AttachCounted}
 use Rattle.hx_link.specs.Told.{LinkState}
 use Rattle.hx_plain.specs.PlainSeat.{first_thread}
 use Rattle.hx_pool.specs.SeatView.{History}
+use Rattle.hx_record.specs.declared.served.Told.{Told}
+use Rattle.hx_script_parts.specs.declared.script.ClientLine.{ClientLine}
 use Rattle.hx_session.specs.declared.step.Step.{Step}
+use Rattle.hx_course.specs.Calls.{step_graves, stop_graves}
+use Rattle.hx_course.specs.Graves.{Grave}
+use Rattle.hx_course.specs.Lines.{lines_of}
+use Rattle.hx_course.specs.Sweeping.{sweep_graves}
 use Rattle.hx_worker.specs.Admitting.{Admits}
 use Rattle.hx_worker.specs.Cares.{TicksAll, CarriesOut}
 use Rattle.hx_worker.specs.Steps.{StepsAt}
@@ -37,25 +44,40 @@ pub record IsOffered (plan : Plan) (net net' : NetState) (client : LinkState) : 
   pub no_dial : client.dial ≡ None
   pub follows : client.plan ≡ Some plan
 
--- calls led from a new worker and a new net of these plans to this worker and this net, and so many of their steps moved
-pub data Makes (plans : List Plan) : WorkerNow → NetState → ℕ → Type 0 where
+-- calls led from a new worker and a new net of these plans to this worker and this net. The clients came in this order, each at its
+-- line's moment; rounds and steps were made at these moments; the calls told these records and left these links buried, in order; and
+-- so many of the steps moved
+pub data Makes (plans : List Plan) (moments : List Millis) : List ClientLine → WorkerNow → NetState → List Told → List Grave → ℕ → Type 0 where
   -- the first thread's, with a seat a server of its configuration, at which nothing has happened
   is_new : (config : Meaning) (seats : List History) (journals : List JournalRoom) (room : ℕ) → BeginFor (all_servers config.backs) seats
-      → Makes plans (new_worker first_thread config seats journals) (new_net plans room).state 0
+      → Makes plans moments [] (new_worker first_thread config seats journals) (new_net plans room).state [] [] 0
   -- its journals got room
-  got_room : (w w' : WorkerNow) (net : NetState) (turns : ℕ) → Makes plans w net turns → IsRoomier w w' → Makes plans w' net turns
+  got_room : (came : List ClientLine) (w w' : WorkerNow) (net : NetState) (records : List Told) (graves : List Grave) (turns : ℕ)
+      → Makes plans moments came w net records graves turns → IsRoomier w w' → Makes plans moments came w' net records graves turns
   -- a client's session began
-  came_one : (w w' : WorkerNow) (net net' : NetState) (turns : ℕ) (plan : Plan) (client : LinkState) (front : ℕ) (now : Millis) (n : SessionNo)
-      → Makes plans w net turns → IsOffered plan net net' client → Admits w w' client front now n → Makes plans w' net' turns
+  came_one : (came : List ClientLine) (w w' : WorkerNow) (net net' : NetState) (records : List Told) (graves : List Grave) (turns : ℕ)
+      (line : ClientLine) (client : LinkState) (n : SessionNo)
+      → Makes plans moments came w net records graves turns → IsOffered line.plan net net' client
+      → Admits w w' client line.front line.moment n
+      → Makes plans moments (came ++ line ∷ []) w' net' records graves turns
   -- an order was carried out
-  obeyed : (w w' : WorkerNow) (net net' : NetState) (turns : ℕ) (what : Order) (count : ℕ) → Makes plans w net turns
-      → CarriesOut w w' net net' what count → Makes plans w' net' turns
+  obeyed : (came : List ClientLine) (w w' : WorkerNow) (net net' : NetState) (records : List Told) (graves : List Grave) (turns : ℕ)
+      (what : Order) (count : ℕ)
+      → Makes plans moments came w net records graves turns → (k : CarriesOut w w' net net' what count)
+      → Makes plans moments came w' net' records (graves ++ sweep_graves 0 k.cares.sweeps) turns
   -- the caretaker made its round
-  ticked : (w w' : WorkerNow) (net net' : NetState) (turns : ℕ) (now : Millis) (count : ℕ) → Makes plans w net turns
-      → TicksAll w w' net net' now count → Makes plans w' net' turns
+  ticked : (came : List ClientLine) (w w' : WorkerNow) (net net' : NetState) (records : List Told) (graves : List Grave) (turns : ℕ)
+      (now : Millis) (count : ℕ)
+      → Makes plans moments came w net records graves turns → Contains moments now → (k : TicksAll w w' net net' now count)
+      → Makes plans moments came w' net' records (graves ++ sweep_graves 0 k.cares.sweeps) turns
   -- a session made a step, a turn where it moved
-  stepped : (w w' : WorkerNow) (net net' : NetState) (turns : ℕ) (n : SessionNo) (now : ℕ) (r : Step) → Makes plans w net turns
-      → StepsAt w w' net net' n now r → Makes plans w' net' (turns_after r.moved turns)
+  stepped : (came : List ClientLine) (w w' : WorkerNow) (net net' : NetState) (records : List Told) (graves : List Grave) (turns : ℕ)
+      (n : SessionNo) (now : Millis) (r : Step)
+      → Makes plans moments came w net records graves turns → Contains moments now → (k : StepsAt w w' net net' n now.0 r)
+      → Makes plans moments came w' net' (records ++ lines_of r.served r.left) (graves ++ step_graves w w' net net' n r k.0)
+      (turns_after r.moved turns)
   -- the session of the least number was stopped
-  stopped_one : (w w' : WorkerNow) (net net' : NetState) (turns : ℕ) (x : Stopped) → Makes plans w net turns
-      → StopsOne w w' net net' x → Makes plans w' net' turns
+  stopped_one : (came : List ClientLine) (w w' : WorkerNow) (net net' : NetState) (records : List Told) (graves : List Grave) (turns : ℕ)
+      (x : Stopped)
+      → Makes plans moments came w net records graves turns → (k : StopsOne w w' net net' x)
+      → Makes plans moments came w' net' (records ++ lines_of x.served (Some x.left)) (graves ++ stop_graves w w' net net' x k) turns

@@ -1,5 +1,6 @@
 //! A replay under way.
-ghost use Rattle.std.specs.Prelude.{◌≡◌, ◌+◌, ◌^◌, ◌<◌, ◌≤◌, ◌++◌, [], true, false, ℕ, All, IfOk, OnOk, IsSome, Ok, Err, length, map};
+ghost use Rattle.std.specs.Prelude.{◌≡◌, ◌+◌, ◌^◌, ◌<◌, ◌≤◌, ◌++◌, [], true, false, ℕ, All, IfOk, OnOk, IsSome, List, Ok, Err, length, map};
+ghost use Rattle.hx_base.specs.declared.numbers.Millis.{Millis};
 ghost use Rattle.hx_config.specs.Limits.{all_servers};
 ghost use Rattle.hx_config.specs.Views.{meaning};
 ghost use Rattle.hx_caretaker.specs.Orders.{ordered_server};
@@ -12,7 +13,7 @@ ghost use Rattle.hx_pool.specs.Journal.{Journal, journal_from};
 ghost use Rattle.hx_run.specs.Overs.{HasRoom, ClosedBelow};
 ghost use Rattle.hx_run.specs.Rooms.{RoomBelow};
 ghost use Rattle.hx_run.specs.Runs.{GoesOn, IsRun, IsWorking, IsRoomier, CarriedOut, Ticked, StopsFirst};
-ghost use Rattle.hx_run.specs.Courses.{ComesOn, HasCourse, KeepsOn, StepsOn};
+ghost use Rattle.hx_run.specs.Courses.{ComesOn, HasCourse, KeepsAt, KeepsOn, StepsOn};
 ghost use Rattle.hx_course.specs.Lines.{lines_of};
 ghost use Rattle.hx_run.specs.declared.running.Halt.TheVariants as halt;
 
@@ -155,7 +156,7 @@ impl<'a> Running<'a> {
         requires plans { All IsPlan plans.items }
         ensures config { IfOk result (λ r. r.worker.config ≡ meaning config.now) }
         ensures empty { IfOk result (λ r. (r.worker.sessions ≡ []) × (r.records ≡ []) × (r.turns ≡ 0) × (r.most ≡ most)) }
-        ensures course { IfOk result (HasCourse plans.items []) }
+        ensures course { IfOk result (λ r. (moments : List Millis) → HasCourse plans.items moments [] r) }
     {
         let seats = seats_of(alloc, config)?;
         let net = MemoryNet::new(alloc, plans, room)?;
@@ -177,23 +178,23 @@ impl<'a> Running<'a> {
         self.turns
     }
 
-    /// A client comes: its link is attached to the loop, and its session begins.
+    /// A client comes at its moment: its link is attached to the loop, and its session begins.
     ///
     /// # Errors
     /// `NoMemory`; one that can't be attached or admitted is buried first. Of a script none is: it has fewer clients than a
     /// worker takes, and a net in memory has room for each link.
-    pub fn come(&mut self, line: ClientLine, now: Millis) -> Result<(), NoMemory>
+    pub fn come(&mut self, line: ClientLine) -> Result<(), NoMemory>
         requires client { is_client_of self.old.worker.config line ≡ true }
         ensures goes { GoesOn self.old self.new }
         ensures turns { self.new.turns ≡ self.old.turns }
-        ensures course { OnOk result (ComesOn line.plan self.old self.new) }
+        ensures course { OnOk result (ComesOn line self.old self.new) }
     {
         let mut link = MemoryLink::new(line.plan);
         if self.net.attach(&mut link).is_err() {
             self.net.bury(link);
             return Err(NoMemory);
         }
-        match self.worker.admit(link, line.front, now) {
+        match self.worker.admit(link, line.front, line.moment) {
             Ok(_) => Ok(()),
             Err(refused) => {
                 self.net.bury(refused.client);
@@ -229,7 +230,7 @@ impl<'a> Running<'a> {
         ensures sessions { self.new.worker.sessions ≡ self.old.worker.sessions }
         ensures turns { self.new.turns ≡ self.old.turns }
         ensures ticks { OnOk result (Ticked now self.old.worker.seats self.new.worker.seats) }
-        ensures course { OnOk result (KeepsOn self.old self.new) }
+        ensures course { OnOk result (KeepsAt now self.old self.new) }
     {
         make_room(&mut self.worker, CARE_MARKS)?;
         self.worker.tick(&mut self.net, now);
@@ -259,7 +260,7 @@ impl<'a> Running<'a> {
         ensures turns { self.new.turns ≡ self.old.turns }
         ensures stays { IfOk result (λ r. (r.waits ≡ Ended → ⊥) → IsSome (session_of self.new.worker.sessions n.0)) }
         ensures told { IfOk result (λ r. self.new.records ≡ self.old.records ++ lines_of r.served r.left) }
-        ensures course { IfOk result (λ r. StepsOn r.moved self.old self.new) }
+        ensures course { IfOk result (λ r. StepsOn now r.moved self.old self.new) }
     {
         make_room(&mut self.worker, STEP_MARKS)?;
         let step = self.worker.step(&mut self.net, n, now);
@@ -280,8 +281,8 @@ impl<'a> Running<'a> {
         ensures overrun { result ≡ Err halt.Overrun → self.new.turns ≡ self.new.most }
         ensures there { result ≡ Ok true → IsSome (session_of self.new.worker.sessions n.0) }
         // what was told and buried, and how many turns were made
-        ensures course { OnOk result (KeepsOn self.old self.new) }
-        ensures stops { result ≡ Err halt.Overrun → KeepsOn self.old self.new }
+        ensures course { OnOk result (KeepsAt now self.old self.new) }
+        ensures stops { result ≡ Err halt.Overrun → KeepsAt now self.old self.new }
     {
         self.may_turn()?;
         let step = self.step(n, now)?;
@@ -304,8 +305,8 @@ impl<'a> Running<'a> {
         ensures within { self.new.turns ≤ self.new.most }
         ensures left { OnOk result (self.new.turns < self.new.most) }
         ensures overrun { result ≡ Err halt.Overrun → self.new.turns ≡ self.new.most }
-        ensures course { OnOk result (KeepsOn self.old self.new) }
-        ensures stops { result ≡ Err halt.Overrun → KeepsOn self.old self.new }
+        ensures course { OnOk result (KeepsAt now self.old self.new) }
+        ensures stops { result ≡ Err halt.Overrun → KeepsAt now self.old self.new }
     {
         while self.turn(n, now)? {}
         Ok(())
@@ -325,8 +326,8 @@ impl<'a> Running<'a> {
         ensures left { self.old.turns < self.old.most → OnOk result (self.new.turns < self.new.most) }
         ensures overrun { result ≡ Err halt.Overrun → self.new.turns ≡ self.new.most }
         // what was told and buried, and how many turns were made
-        ensures course { OnOk result (KeepsOn self.old self.new) }
-        ensures stops { result ≡ Err halt.Overrun → KeepsOn self.old self.new }
+        ensures course { OnOk result (KeepsAt now self.old self.new) }
+        ensures stops { result ≡ Err halt.Overrun → KeepsAt now self.old self.new }
     {
         let before = self.turns;
         let mut after = SessionNo(0);
@@ -347,8 +348,8 @@ impl<'a> Running<'a> {
         ensures left { self.old.turns < self.old.most → OnOk result (self.new.turns < self.new.most) }
         ensures overrun { result ≡ Err halt.Overrun → self.new.turns ≡ self.new.most }
         ensures still { OnOk result (self.new.last ≡ 0) }
-        ensures course { OnOk result (KeepsOn self.old self.new) }
-        ensures stops { result ≡ Err halt.Overrun → KeepsOn self.old self.new }
+        ensures course { OnOk result (KeepsAt now self.old self.new) }
+        ensures stops { result ≡ Err halt.Overrun → KeepsAt now self.old self.new }
     {
         while self.round(now)? {}
         Ok(())

@@ -1,10 +1,10 @@
 //! The replay of a whole script, by its moments.
 ghost use Rattle.std.specs.Prelude.{◌≡◌, ◌<◌, [], false, Err, IfOk, OnOk};
 ghost use Rattle.hx_config.specs.Limits.{all_servers};
-ghost use Rattle.hx_config.specs.Views.{meaning};
+ghost use Rattle.hx_script_parts.specs.Views.{meaning};
 ghost use Rattle.hx_run.specs.Dues.{AreDue};
 ghost use Rattle.hx_run.specs.Overs.{AreOver};
-ghost use Rattle.hx_run.specs.Courses.{ComesAll, EndsCourse, EndsPlanned, KeepsOn, MakesAll, MakesFewer};
+ghost use Rattle.hx_run.specs.Courses.{ComesAll, ComesAt, ComesIn, EndsCourse, EndsPlanned, KeepsOn, MakesAll, MakesFewer};
 ghost use Rattle.hx_run.specs.Runs.{GoesOn};
 ghost use Rattle.hx_run.specs.declared.running.Halt.TheVariants as halt;
 
@@ -39,7 +39,7 @@ fn run_clients(running: &mut Running<'_>, due: &mut Due, now: Millis) -> Result<
     ensures course { OnOk result (ComesAll running.old due.old.clients.items running.new due.new.clients.items) }
 {
     while let Some(line) = due.client(now) {
-        running.come(line, now)?;
+        running.come(line)?;
     }
     Ok(())
 }
@@ -52,9 +52,9 @@ fn run_moment(running: &mut Running<'_>, due: &mut Due, now: Millis) -> Result<(
     ensures left { running.old.turns < running.old.most → OnOk result (running.new.turns < running.new.most) }
     ensures overrun { result ≡ Err halt.Overrun → running.new.turns ≡ running.new.most }
     // what was told and buried, whose clients came, and how many turns were made
-    ensures course { OnOk result (ComesAll running.old due.old.clients.items running.new due.new.clients.items) }
+    ensures course { OnOk result (ComesAt now running.old due.old.clients.items running.new due.new.clients.items) }
     ensures stops { result ≡ Err halt.Overrun
-        → ComesAll running.old due.old.clients.items running.new due.new.clients.items }
+        → ComesAt now running.old due.old.clients.items running.new due.new.clients.items }
 {
     run_orders(running, due, now)?;
     run_clients(running, due, now)?;
@@ -69,9 +69,9 @@ fn run_moments(running: &mut Running<'_>, due: &mut Due, moments: &[Millis]) -> 
     ensures left { OnOk result (running.new.turns < running.new.most) }
     ensures overrun { result ≡ Err halt.Overrun → running.new.turns ≡ running.new.most }
     // what was told and buried, whose clients came, and how many turns were made
-    ensures course { OnOk result (ComesAll running.old due.old.clients.items running.new due.new.clients.items) }
+    ensures course { OnOk result (ComesIn moments.now running.old due.old.clients.items running.new due.new.clients.items) }
     ensures stops { result ≡ Err halt.Overrun
-        → ComesAll running.old due.old.clients.items running.new due.new.clients.items }
+        → ComesIn moments.now running.old due.old.clients.items running.new due.new.clients.items }
 {
     running.may_turn()?;
     for now in moments {
@@ -107,8 +107,8 @@ pub fn run_script(alloc: Global, script: Script, most: u64) -> Result<Ran, Halt>
     ensures course { IfOk result (λ ran. EndsCourse ran.records ran.net.state) }
     ensures plans { IfOk result (λ ran. EndsPlanned script.clients script.plans ran.records ran.net.state) }
     // the turns: fewer, or just as many
-    ensures within { IfOk result (λ ran. MakesFewer (meaning script.config) script.clients script.plans most ran.net.state) }
-    ensures overrun { result ≡ Err halt.Overrun → MakesAll (meaning script.config) script.clients script.plans most }
+    ensures within { IfOk result (λ ran. MakesFewer (meaning script) most ran.records ran.net.state) }
+    ensures overrun { result ≡ Err halt.Overrun → MakesAll (meaning script) most }
 {
     let Script {
         config,

@@ -1,5 +1,5 @@
 use Rattle.std.proofs.Common.{◌<◌}
-use Rattle.hx_run.specs.Courses.{ComesAll}
+use Rattle.hx_run.specs.Courses.{ComesIn}
 use Rattle.hx_run.specs.Dues.{AreDue}
 use Rattle.hx_run.specs.Runs.{GoesOn}
 use Rattle.hx_run.proofs.whole.run_moments.Given as goal
@@ -7,4 +7,4 @@ use Rattle.hx_run.proofs.whole.run_moments.Given as goal
 abbrev pub invariant-loop-now : goal.invariant-loop-now
 invariant-loop-now l =
     GoesOn l.fn.running l.running × AreDue l.fn.running.worker.config l.due
-    × ComesAll l.fn.running l.fn.due.clients.items l.running l.due.clients.items × (l.running.turns < l.running.most)
+    × ComesIn l.fn.moments l.fn.running l.fn.due.clients.items l.running l.due.clients.items × (l.running.turns < l.running.most)

@@ -14,7 +14,7 @@ pub loop-what-preserved : goal.loop-what-preserved
 loop-what-preserved c = (
   goes_both c.args.running.now c.loop-what.running c.order-in-Some.new.self c.loop-what.invariant.0 c.order-in-Some.ensures.goes,
   c.order.ensures.due c.args.running.now.worker.config c.loop-what.invariant.1,
-  λ plans came h. c.in_ok-order.ensures.course plans came (c.loop-what.invariant.2 plans came h),
+  λ plans moments came h. c.in_ok-order.ensures.course plans moments came (c.loop-what.invariant.2 plans moments came h),
   c.order.ensures.clients ∙ c.loop-what.invariant.3,
   c.order-in-Some.ensures.turns ∙ c.loop-what.invariant.4,
 )

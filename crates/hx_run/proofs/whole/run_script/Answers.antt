@@ -1,6 +1,7 @@
-use Rattle.std.proofs.Common.{◌≡◌, ◌<◌, List, [], All, map, refl, sym, ap, subst, arith, ◌∙◌}
+use Rattle.std.proofs.Common.{◌≡◌, ◌<◌, List, [], All, refl, sym, ap, subst, arith, ◌∙◌}
 use Rattle.std.proofs.lemmas.Result.{err_from_is_err_and}
 use Rattle.std.specs.Prelude.{reverse}
+use Rattle.hx_base.specs.declared.numbers.Millis.{Millis}
 use Rattle.hx_base.specs.declared.plan.Plan.{Plan}
 use Rattle.hx_config.specs.Limits.{all_servers}
 use Rattle.hx_config.specs.Meaning.{Meaning}
@@ -11,11 +12,12 @@ use Rattle.hx_run.specs.Dues.{AreDue}
 use Rattle.hx_run.specs.Overs.{AreOver}
 use Rattle.hx_link.specs.Nets.{NetState}
 use Rattle.hx_record.specs.declared.served.Told.{Told}
+use Rattle.hx_script_parts.specs.Views.{meaning as says}
 use Rattle.hx_script_parts.specs.declared.script.ClientLine.{ClientLine}
 use Rattle.hx_run.proofs.Coursing.{all_come}
 use Rattle.hx_run.proofs.Ending.{ends_course, ends_planned, makes_all, makes_fewer, same_error}
 use Rattle.hx_run.proofs.Working.{all_plans, all_due, run_over}
-use Rattle.hx_run.specs.Courses.{EndsCourse, EndsPlanned, HasCourse, plan_of}
+use Rattle.hx_run.specs.Courses.{ComesIn, EndsCourse, EndsPlanned, HasCourse}
 use Rattle.hx_run.proofs.whole.run_script.Goals as goal
 
 pub new-requires : goal.new-requires
@@ -47,19 +49,21 @@ returns-clause-over c =
 abbrev ordered : goal.After-drop-moments-inside-2 → List ClientLine
 ordered c = reverse c.in_ok-clients_due.field-0.items
 
-followed : (c : goal.After-drop-moments-inside-2) → HasCourse c.args.script.plans (map plan_of (ordered c)) c.drain_all.new.self
+followed : (c : goal.After-drop-moments-inside-2) → HasCourse c.args.script.plans c.args.script.moments (ordered c) c.drain_all.new.self
 followed c =
     let plans = c.args.script.plans in
-    let begun : HasCourse plans [] c.in_ok-running.running = subst (λ (l : List Plan). HasCourse l [] c.in_ok-running.running) c.into_vec-plans.ensures c.in_ok-running.ensures.course in
-    let came : HasCourse plans (map plan_of (ordered c)) c.run_moments.new.running =
-    all_come plans (ordered c) c.in_ok-clients_due.field-0.items c.run_moments.new.due.clients.items c.in_ok-running.running c.run_moments.new.running begun refl c.in_ok-all_came.ensures.none c.in_ok-run_moments.ensures.course in
-    c.in_ok-drain_all.ensures.course plans (map plan_of (ordered c)) (c.in_ok-stop_all.ensures.course plans (map plan_of (ordered c)) came)
+    let moments = c.args.script.moments in
+    let begun : HasCourse plans moments [] c.in_ok-running.running = subst (λ (l : List Plan). HasCourse l moments [] c.in_ok-running.running) c.into_vec-plans.ensures (c.in_ok-running.ensures.course moments) in
+    let came : HasCourse plans moments (ordered c) c.run_moments.new.running =
+    all_come plans moments (ordered c) c.in_ok-clients_due.field-0.items c.run_moments.new.due.clients.items c.in_ok-running.running c.run_moments.new.running begun refl c.in_ok-all_came.ensures.none
+    (subst (λ (l : List Millis). ComesIn l c.in_ok-running.running c.in_ok-clients_due.field-0.items c.run_moments.new.running c.run_moments.new.due.clients.items) c.as_slice.ensures c.in_ok-run_moments.ensures.course) in
+    c.in_ok-drain_all.ensures.course plans moments (ordered c) (c.in_ok-stop_all.ensures.course plans moments (ordered c) came)
 
 pub returns-clause-course : goal.returns-clause-course
 returns-clause-course c =
     let end = c.drain_all.new.self in
     let ends : EndsCourse end.records end.net.state =
-    ends_course c.args.script.plans (map plan_of (ordered c)) end.worker end.net.state end.records end.turns c.in_ok-over.ensures.run.working c.in_ok-drain_all.ensures.empty c.in_ok-drain_all.ensures.closed (followed c) in
+    ends_course c.args.script.plans c.args.script.moments (ordered c) end.worker end.net.state end.records end.turns c.in_ok-over.ensures.run.working c.in_ok-drain_all.ensures.empty c.in_ok-drain_all.ensures.closed (followed c) in
     let over = c.in_ok-over.ensures in
     let net : c.in_ok-over.over.net.state ≡ end.net.state = ap (λ (n : MemoryNetNow). n.state) over.net.0 in
     subst (λ (l : List Told). EndsCourse l c.in_ok-over.over.net.state) (sym (c.from_vec.ensures ∙ over.records))
@@ -71,7 +75,7 @@ returns-clause-plans c =
     let clients = c.args.script.clients in
     let plans = c.args.script.plans in
     let ends : EndsPlanned clients plans end.records end.net.state =
-    ends_planned clients (ordered c) plans end.worker end.net.state end.records end.turns c.in_ok-over.ensures.run.working c.in_ok-drain_all.ensures.empty c.in_ok-drain_all.ensures.closed c.in_ok-clients_due.ensures.in_order (followed c) in
+    ends_planned clients (ordered c) plans c.args.script.moments end.worker end.net.state end.records end.turns c.in_ok-over.ensures.run.working c.in_ok-drain_all.ensures.empty c.in_ok-drain_all.ensures.closed c.in_ok-clients_due.ensures.in_order (followed c) in
     let over = c.in_ok-over.ensures in
     let net : c.in_ok-over.over.net.state ≡ end.net.state = ap (λ (n : MemoryNetNow). n.state) over.net.0 in
     subst (λ (l : List Told). EndsPlanned clients plans l c.in_ok-over.over.net.state) (sym (c.from_vec.ensures ∙ over.records))
@@ -85,17 +89,19 @@ returns-clause-within c =
     c.in_ok-drain_all.ensures.goes.config ∙ c.in_ok-stop_all.ensures.goes.config ∙ c.in_ok-run_moments.ensures.goes.config ∙ c.in_ok-running.ensures.config in
     let few : end.turns < c.args.most =
     omega (arith, c.in_ok-run_moments.ensures.left, c.in_ok-run_moments.ensures.goes.most, c.in_ok-running.ensures.empty.3, c.in_ok-stop_all.ensures.turns, c.in_ok-drain_all.ensures.turns) in
-    makes_fewer (meaning script.config) script.clients (ordered c) script.plans c.args.most c.in_ok-over.over.net.state end config c.in_ok-clients_due.ensures.in_order (followed c) c.in_ok-drain_all.ensures.empty
-    (ap (λ (n : MemoryNetNow). n.state) c.in_ok-over.ensures.net.0) few
+    makes_fewer (says script) (ordered c) c.args.most _ c.in_ok-over.over.net.state end config c.in_ok-clients_due.ensures.in_order (followed c) c.in_ok-drain_all.ensures.empty
+    (c.from_vec.ensures ∙ c.in_ok-over.ensures.records) (ap (λ (n : MemoryNetNow). n.state) c.in_ok-over.ensures.net.0) few
 
 pub returns-in_err-run_moments-clause-overrun : goal.returns-in_err-run_moments-clause-overrun
 returns-in_err-run_moments-clause-overrun c =
     let script = c.args.script in
-    let begun : HasCourse script.plans [] c.in_ok-running.running = subst (λ (l : List Plan). HasCourse l [] c.in_ok-running.running) c.into_vec-plans.ensures c.in_ok-running.ensures.course in
+    let begun : HasCourse script.plans script.moments [] c.in_ok-running.running =
+    subst (λ (l : List Plan). HasCourse l script.moments [] c.in_ok-running.running) c.into_vec-plans.ensures (c.in_ok-running.ensures.course script.moments) in
     let end = c.run_moments.new.running in
     let goes = c.run_moments.ensures.goes in
     let p = err_from_is_err_and c.from_residual-in_err-run_moments.result c.from_residual-in_err-run_moments.ensures.1 in
     rw (p.1, p.2) (λ is.
-    makes_all (meaning script.config) script.clients (reverse c.in_ok-clients_due.field-0.items) c.in_ok-clients_due.field-0.items c.run_moments.new.due.clients.items script.plans c.args.most c.in_ok-running.running end begun
-    c.in_ok-clients_due.ensures.in_order refl (c.in_err-run_moments.ensures.stops (same_error _ _ is)) (goes.config ∙ c.in_ok-running.ensures.config)
+    makes_all (says script) (reverse c.in_ok-clients_due.field-0.items) c.in_ok-clients_due.field-0.items c.run_moments.new.due.clients.items c.args.most c.in_ok-running.running end begun
+    c.in_ok-clients_due.ensures.in_order refl
+    (subst (λ (l : List Millis). ComesIn l c.in_ok-running.running c.in_ok-clients_due.field-0.items end c.run_moments.new.due.clients.items) c.as_slice.ensures (c.in_err-run_moments.ensures.stops (same_error _ _ is))) (goes.config ∙ c.in_ok-running.ensures.config)
     (c.in_err-run_moments.ensures.overrun (same_error _ _ is) ∙ goes.most ∙ c.in_ok-running.ensures.empty.3))

@@ -1,11 +1,11 @@
 use Rattle.std.proofs.Common.{◌-◌, ◌^◌, ◌<◌}
-use Rattle.hx_run.specs.Courses.{KeepsOn}
+use Rattle.hx_run.specs.Courses.{KeepsAt}
 use Rattle.hx_run.specs.Runs.{GoesOn}
 use Rattle.hx_run.proofs.running.Running.round.Given as goal
 
 abbrev pub invariant-loop-n : goal.invariant-loop-n
 invariant-loop-n l =
-    GoesOn l.fn.self l.self × KeepsOn l.fn.self l.self × (l.fn.self.turns < l.fn.self.most → l.self.turns < l.self.most)
+    GoesOn l.fn.self l.self × KeepsAt l.fn.now l.fn.self l.self × (l.fn.self.turns < l.fn.self.most → l.self.turns < l.self.most)
 
 abbrev pub decreases-loop-n : goal.decreases-loop-n
 decreases-loop-n l = 2 ^ 32 - l.after.0
