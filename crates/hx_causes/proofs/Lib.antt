@@ -1,0 +1,4 @@
+pub mod SessionLists
+pub mod Going
+pub mod StepCauses
+pub mod ReplayCauses
