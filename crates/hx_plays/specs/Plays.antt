@@ -3,6 +3,7 @@ use Rattle.std.specs.Prelude.{◌≡◌, ℕ, ◌+◌, ◌*◌, ◌<◌, ◌⊎�
 use Rattle.hx_config.specs.Limits.{all_servers}
 use Rattle.hx_link.specs.Nets.{NetState}
 use Rattle.hx_pool.specs.Journal.{Journal}
+use Rattle.hx_record.specs.declared.served.Told.{Told}
 use Rattle.hx_run.specs.Courses.{MakesAll, MakesFewer}
 use Rattle.hx_script.specs.TrueTranscript.{Ends, IsTrueTranscript}
 use Rattle.hx_script.specs.Printed.{Spells}
@@ -12,17 +13,20 @@ use Rattle.hx_script_parts.specs.Meaning.{Meaning, longest_text, meaning_of}
 use Rattle.hx_script_parts.specs.declared.fault.Flaw.TheVariants as flaw
 use Rattle.hx_script_parts.specs.declared.fault.Rule.{Rule}
 use Rattle.hx_script_parts.specs.declared.fault.Rule.TheVariants.{BadWorker}
+use Rattle.hx_told.specs.Caused.{CausedByScript}
 use Rattle.hx_told.specs.Follows.{FollowsScript}
 use Rattle.hx_told.specs.Servers.{named_servers, parts_of}
 use Rattle.hx_plays.specs.declared.plays.Replay.{Replay}
 use Rattle.hx_plays.specs.declared.plays.Replay.TheVariants as replay
 
 -- of the transcript some connections count as ended: all that it tells is true, and its clients are those of the script's lines,
--- one to one by moment and line, its connections followed the script's plans, and only one whose plan has an end counts as ended
+-- one to one by moment and line, its connections followed the script's plans, only one whose plan has an end counts as ended, and each
+-- record has its cause by the script
 pub record TellsScript (script : Meaning) (t : Transcript) : Type 0 where
   pub ends : Ends
   pub is_true : IsTrueTranscript t ends
   pub follows : FollowsScript script.clients script.plans ends t.clients t.conns
+  pub causes : CausedByScript script ends t
 
 -- the text spells a transcript whose servers are those of the configuration, in order, by name and rules, each with the marks
 -- of one journal; and all that it tells is true and of the script's lines: each record, each range, each client and connection,
@@ -39,22 +43,22 @@ pub record TellsServers (script : Meaning) (text : List ℕ) : Type 0 where
 abbrev pub most_turns : ℕ → ℕ → ℕ
 most_turns bytes clients = 16 * bytes + 64 * clients
 
--- a whole replay of the script made fewer turns
-abbrev pub EndsWithin : Meaning → ℕ → Type 0
-EndsWithin script most = (net : NetState) × MakesFewer script.config script.clients script.plans most net
+-- a whole replay of the script told these records, and made fewer turns
+abbrev pub EndsWithin : Meaning → ℕ → List Told → Type 0
+EndsWithin script most records = (net : NetState) × MakesFewer script most records net
 
 -- a replay of the script made so many turns, and went on no further
 abbrev pub RunsOut : Meaning → ℕ → Type 0
-RunsOut script most = MakesAll script.config script.clients script.plans most
+RunsOut script most = MakesAll script most
 
--- the bytes are a script of one thread, and the text is that of a true transcript of its servers; a whole replay of it made fewer
--- turns than end it
+-- the bytes are a script of one thread, and the text is that of a true transcript of its servers, whose records a whole replay of it
+-- told, by calls at the script's moments; that made fewer turns than end it
 pub record Plays (bytes text : List ℕ) : Type 0 where
   pub script : Meaning
   pub reads : meaning_of bytes ≡ Ok script
   pub one : script.config.threads ≡ 1
   pub tells : TellsServers script text
-  pub within : EndsWithin script (most_turns (length bytes) (length script.clients))
+  pub within : EndsWithin script (most_turns (length bytes) (length script.clients)) tells.transcript.records
 
 -- the most bytes of a script
 abbrev pub most_script : ℕ
@@ -99,6 +103,6 @@ IsPlayOf bytes (replay.Overrun turns) = Overruns bytes turns
 
 -- what a script is replayed to, where so many turns end it
 abbrev pub IsRunOf : Meaning → ℕ → Replay → Type 0
-IsRunOf script most (replay.Text text) = TellsServers script text.items × EndsWithin script most
+IsRunOf script most (replay.Text text) = (tells : TellsServers script text.items) × EndsWithin script most tells.transcript.records
 IsRunOf script most (replay.Overrun turns) = (turns ≡ most) × RunsOut script turns
 IsRunOf script most _ = ⊥

@@ -61,7 +61,7 @@ fn replay_script(alloc: Global, script: Script, most: u64) -> Result<Replay, NoM
 ///
 /// # Errors
 /// `NoMemory` for want of memory.
-#[tactic(auto, using(crate::proofs::PlayLemmas::fault_at, crate::proofs::PlayLemmas::threads_fault, crate::proofs::PlayLemmas::runs_play))]
+#[tactic(auto, using(crate::proofs::PlayLemmas::fault_at, crate::proofs::PlayLemmas::threads_fault))]
 pub fn replay_any(alloc: Global, bytes: &[u8]) -> Result<Replay, NoMemory>
     ensures { IfOk result (IsPlayOf bytes.now) }
 {

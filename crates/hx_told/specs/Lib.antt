@@ -1,5 +1,6 @@
 pub mod Ends
 pub mod Follows
+pub mod Caused
 pub mod Links
 pub mod Orders
 pub mod Places

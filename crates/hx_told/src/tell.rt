@@ -1,12 +1,14 @@
 //! What a whole replay did, told as a transcript.
-ghost use Rattle.std.specs.Prelude.{◌≡◌, All, IfOk, List, length};
+ghost use Rattle.std.specs.Prelude.{◌≡◌, ℕ, All, IfOk, List, length};
 ghost use Rattle.hx_base.specs.declared.plan.Plan.{Plan};
 ghost use Rattle.hx_config.specs.Limits.{all_servers};
-ghost use Rattle.hx_run.specs.Courses.{EndsCourse, EndsPlanned};
+ghost use Rattle.hx_run.specs.Courses.{EndsCourse, EndsPlanned, MakesFewer};
 ghost use Rattle.hx_run.specs.Overs.{AreOver};
 ghost use Rattle.hx_script.specs.PrintedForm.{ClientBefore, ConnBefore, Rises, IsToldServer};
 ghost use Rattle.hx_script.specs.TrueTranscript.{IsTrueTranscript};
+ghost use Rattle.hx_script_parts.specs.Meaning.{Meaning};
 ghost use Rattle.hx_script_parts.specs.declared.script.ClientLine.{ClientLine};
+ghost use Rattle.hx_told.specs.Caused.{CausedByScript};
 ghost use Rattle.hx_told.specs.Ends.{ends_of, EndsByPlan};
 ghost use Rattle.hx_told.specs.Follows.{FollowsScript};
 ghost use Rattle.hx_told.specs.Servers.{named_servers, parts_of, all_sums};
@@ -84,7 +86,8 @@ fn put_together(
 /// The transcript of a replay that is over: the configuration's servers with the marks and the totals of their seats, the
 /// records, and the bytes of all links that were buried. The k-th session that ended is that of the k-th link that was
 /// buried and not dialled. All that it tells is true, and a connection ended just where its link told its end. Where each
-/// link followed its plan in a script, the clients are those of the script's lines, and the connections followed its plans.
+/// link followed its plan in a script, the clients are those of the script's lines, and the connections followed its plans. Where
+/// the records are those of a replay of a script, each has its cause there.
 ///
 /// # Errors
 /// `NoMemory` for want of memory, now or before, so that a mark or a byte isn't kept; and where the parts don't fit
@@ -97,6 +100,8 @@ pub fn tell_run(alloc: Global, ran: Ran) -> Result<Transcript, NoMemory>
     ensures ended { IfOk result (λ t. All (EndsByPlan ran.net.links) t.conns) }
     ensures plans { (lines : List ClientLine) (plans : List Plan) → EndsPlanned lines plans ran.records ran.net.state
         → IfOk result (λ t. FollowsScript lines plans (ends_of ran.net.links) t.clients t.conns) }
+    ensures causes { (script : Meaning) (most : ℕ) → MakesFewer script most ran.records ran.net.state
+        → IfOk result (CausedByScript script (ends_of ran.net.links)) }
     ensures servers { IfOk result (λ t. t.servers
         ≡ parts_of (named_servers ran.config.backs) ran.seats) }
     ensures totals { IfOk result (λ t. t.totals ≡ all_sums ran.seats) }

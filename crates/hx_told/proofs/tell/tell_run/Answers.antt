@@ -9,6 +9,7 @@ use Rattle.hx_script.specs.TrueTranscript.{AreTrueServers}
 use Rattle.hx_told.specs.declared.servers.Named.{Named}
 use Rattle.hx_told.specs.Servers.{IsWhole, all_sums, named_servers, parts_of}
 use Rattle.hx_told.specs.Telling.{TellsLinks}
+use Rattle.hx_told.proofs.Caused.{ok_caused}
 use Rattle.hx_told.proofs.Follows.{ok_follows}
 use Rattle.hx_told.proofs.Overs.{true_servers}
 use Rattle.hx_told.proofs.Truth.{ok_true, ok_ended}
@@ -49,3 +50,11 @@ returns-clause-plans c = λ lines plans e.
     subst (λ (rs : List Told). TellsLinks rs c.args.ran.net clients conns) c.as_slice-3.ensures c.in_ok-links.ensures.links in
     ok_follows lines plans c.args.ran.net c.args.ran.records clients conns c.put_together.result links c.in_ok-links.ensures.clients c.in_ok-links.ensures.conns
     c.put_together.ensures.clients c.put_together.ensures.conns e
+
+pub returns-clause-causes : goal.returns-clause-causes
+returns-clause-causes c = λ script most m.
+    let clients : List ClientBytes = c.in_ok-links.links.clients.items in
+    let conns : List ConnBytes = c.in_ok-links.links.conns.items in
+    let links : TellsLinks c.args.ran.records c.args.ran.net clients conns =
+    subst (λ (rs : List Told). TellsLinks rs c.args.ran.net clients conns) c.as_slice-3.ensures c.in_ok-links.ensures.links in
+    ok_caused script most c.args.ran.net c.args.ran.records clients conns c.put_together.result links c.in_ok-links.ensures.conns c.put_together.ensures.records c.put_together.ensures.clients c.put_together.ensures.conns m
