@@ -1,7 +1,8 @@
 -- How a run ends, and why.
 use Rattle.std.specs.Prelude.{◌≡◌, ℕ, List, Result, Ok, Err}
 use Rattle.hx_base.specs.declared.numbers.NoMemory.{NoMemory}
-use Rattle.hx_link.specs.Told.{SinkState}
+use Rattle.hx_base.specs.Counts.{Rose}
+use Rattle.hx_link.specs.Told.{SourceState, SinkState}
 use Rattle.hx_link.specs.Whole.{WritesAll}
 use Rattle.hx_doors.specs.Cabinets.{CabinetState}
 use Rattle.hx_startup.specs.declared.ending.Ending.TheVariants as ending
@@ -18,16 +19,17 @@ IsDone (served.Ending (ending.Done text)) = Unit {0}
 IsDone (served.Ending ending.NoMemory) = Unit {0}
 IsDone s = ⊥
 
--- how serving ended: it was stopped, or the orders or the sink failed
-abbrev pub IsServed : Served → Type 0
-IsServed (served.Ending ending.SourceFault) = Unit {0}
-IsServed served.SinkFault = Unit {0}
-IsServed s = IsDone s
+-- how serving ended: it was stopped, or memory ran out, and the sink counted no fault; or the orders or the sink failed
+abbrev pub IsServed : SourceState → SourceState → SinkState → SinkState → Result Served NoMemory → Type 0
+IsServed orders orders' sink sink' (Ok (served.Ending ending.SourceFault)) = Rose orders.faults orders'.faults × (sink'.faults ≡ sink.faults)
+IsServed orders orders' sink sink' (Ok served.SinkFault) = Rose sink.faults sink'.faults
+IsServed orders orders' sink sink' (Ok s) = IsDone s × (sink'.faults ≡ sink.faults)
+IsServed orders orders' sink sink' (Err memory) = sink'.faults ≡ sink.faults
 
--- what is due was written, and the status is its own; or the sink failed
+-- what is due was written, and the status is its own; or the sink failed, now or before
 abbrev pub Closes : Result Served NoMemory → SinkState → SinkState → ℕ → Type 0
 Closes (Ok (served.Ending e)) old new status = Ends e old new status
-Closes (Ok served.SinkFault) old new status = status ≡ 3
+Closes (Ok served.SinkFault) old new status = (status ≡ 3) × (new ≡ old)
 Closes (Err memory) old new status = Ends ending.NoMemory old new status
 
 -- the file that the words name has a first fault, and the line that says so was written

@@ -1,5 +1,4 @@
 //! The workers of a run, from their seats to their totals.
-ghost use Rattle.std.specs.Prelude.{IfOk};
 ghost use Rattle.hx_serve.specs.Runs.{IsServed, IsDone};
 
 use crate::endings::Served;
@@ -126,7 +125,7 @@ pub(crate) fn serve_with<
 ) -> Result<Served, NoMemory>
 where
     N::L: Send,
-    ensures { IfOk result IsServed }
+    ensures { IsServed (S.state orders.old) (S.state orders.new) (K.state sink.old) (K.state sink.new) result }
 {
     made?;
     let Ends {

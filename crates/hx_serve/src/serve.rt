@@ -1,5 +1,5 @@
 //! The program over any net, door, cabinet, orders, clock and sink.
-ghost use Rattle.std.specs.Prelude.{◌≡◌, ◌⊎◌, IfOk};
+ghost use Rattle.std.specs.Prelude.{◌≡◌, ◌⊎◌};
 ghost use Rattle.hx_base.specs.Counts.{Rose};
 ghost use Rattle.hx_startup.specs.Options.{words_of, TakesWords, AsksCheck};
 ghost use Rattle.hx_serve.specs.Runs.{IsServed, Closes, IsRefused, IsToldOf, WasServed};
@@ -41,7 +41,7 @@ fn serve_at<
 ) -> Result<Served, NoMemory>
 where
     N::L: Send,
-    ensures { IfOk result IsServed }
+    ensures { IsServed (S.state orders.old) (S.state orders.new) (K.state sink.old) (K.state sink.new) result }
 {
     let config = &plan.config;
     let mut rows = Vec::new(alloc);
@@ -71,7 +71,7 @@ fn serve<
 ) -> Result<Served, NoMemory>
 where
     N::L: Send,
-    ensures { IfOk result IsServed }
+    ensures { IsServed (S.state orders.old) (S.state orders.new) (K.state sink.old) (K.state sink.new) result }
 {
     let mut boards = boards_of(alloc, &plan.config, plan.threads)?;
     let mut all = lanes_of(alloc, plan.threads)?;
@@ -132,9 +132,8 @@ where
     N::L: Send,
     ensures usage { result ≡ 1 → TakesWords (words_of words.now) → ⊥ }
     ensures source { result ≡ 2 → Rose (F.state cabinet.old).faults (F.state cabinet.new).faults
-        ⊎ WasServed (words_of words.now) (F.state cabinet.old) (F.state cabinet.new) }
-    ensures sink { result ≡ 3 → Rose (K.state sink.old).faults (K.state sink.new).faults
-        ⊎ WasServed (words_of words.now) (F.state cabinet.old) (F.state cabinet.new) }
+        ⊎ Rose (S.state orders.old).faults (S.state orders.new).faults }
+    ensures sink { result ≡ 3 → Rose (K.state sink.old).faults (K.state sink.new).faults }
     ensures config { result ≡ 4 → IsRefused (words_of words.now) (F.state cabinet.old) (F.state cabinet.new) (K.state sink.old) (K.state sink.new) }
     ensures listening { result ≡ 5 → Rose (D.state door.old).faults (D.state door.new).faults }
     ensures check { result ≡ 0 → AsksCheck (words_of words.now)

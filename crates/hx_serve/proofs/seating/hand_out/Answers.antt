@@ -1,5 +1,5 @@
 use Rattle.std.proofs.Common.{length}
-use Rattle.hx_serve.proofs.Beginning.{first_is_new, popped, left_by_pop}
+use Rattle.hx_serve.proofs.Beginning.{popped, left_by_pop}
 use Rattle.hx_serve.proofs.seating.hand_out.Goals as goal
 
 pub fresh_of-requires : goal.fresh_of-requires
