@@ -32,6 +32,7 @@ use Rattle.hx_worker.specs.Admitting.{Admits}
 use Rattle.hx_worker.specs.Stops.{StopsOne}
 use Rattle.hx_worker.specs.Workers.{WorkerNow}
 use Rattle.hx_worker.specs.declared.answers.Stopped.{Stopped}
+use Rattle.hx_run.specs.Cares.{Care}
 use Rattle.hx_run.specs.Turns.{Makes, is_new, got_room, came_one, obeyed, ticked, stepped, stopped_one}
 use Rattle.hx_causes.specs.Causes.{scope, WasBuried, LinkIs, WentOn, IsOfLine, DecidedOwn, CausedKind, CausedLine, HasCauses}
 use Rattle.hx_causes.proofs.Going.{GoesOn, Moves, line_on, own_on, told_on}
@@ -196,49 +197,49 @@ one_longer : {A : Type 0} (xs : List A) (x : A) → length (xs ++ x ∷ []) ≡ 
 one_longer [] x = refl
 one_longer (y ∷ xs) x = let e = one_longer xs x in omega (arith, e)
 
-holds : (config : Meaning) (plans : List Plan) (moments : List Millis) (came : List ClientLine) (w : WorkerNow) (net : NetState) (records : List Told) (graves : List Grave) (turns : ℕ) → Makes plans moments came w net records graves turns
+holds : (config : Meaning) (plans : List Plan) (moments : List Millis) (came : List ClientLine) (cares : List Care) (w : WorkerNow) (net : NetState) (records : List Told) (graves : List Grave) (turns : ℕ) → Makes plans moments came cares w net records graves turns
     → w.config ≡ config → Holds config moments came w net records graves
-holds config plans moments _ _ _ _ _ _ (is_new c seats journals room begins) e = record {
+holds config plans moments _ _ _ _ _ _ _ (is_new c seats journals room begins) e = record {
   count = refl;
   causes = record { lines = λ s there. absurd (none_in s there); owns = λ s status there own. absurd (none_in s there); told = λ x there. absurd (none_in x there) };
 }
-holds config plans moments _ _ _ _ _ _ (got_room came w w' net records graves turns m same) e =
+holds config plans moments _ _ _ _ _ _ _ (got_room came cares w w' net records graves turns m same) e =
     let config_is : w'.config ≡ w.config = ap (λ (v : WorkerNow). v.config) same in
     let sessions : w'.sessions ≡ w.sessions = ap (λ (v : WorkerNow). v.sessions) same in
-    let h = holds config plans moments came w net records graves turns m (sym config_is ∙ e) in record {
+    let h = holds config plans moments came cares w net records graves turns m (sym config_is ∙ e) in record {
       count = ap (λ (v : WorkerNow). v.last) same ∙ h.count;
       causes = subst (λ (l : List SessionNow). HasCauses (scope config moments came) l net graves records) (sym sessions) h.causes;
     }
-holds config plans moments _ _ _ _ _ _ (came_one came w w' net net' records graves turns new client n m offered admits) e =
+holds config plans moments _ _ _ _ _ _ _ (came_one came cares w w' net net' records graves turns new client n m offered admits) e =
     let config_is : w'.config ≡ w.config = ap (λ (v : WorkerNow). v.config) admits.admits in
     let sessions : w'.sessions ≡ w.sessions ++ admitted w.thread n new.front new.moment.0 client ∷ [] = ap (λ (v : WorkerNow). v.sessions) admits.admits in
     let last : w'.last ≡ w.last + 1 = ap (λ (v : WorkerNow). v.last) admits.admits in
-    let h = holds config plans moments came w net records graves turns m (sym config_is ∙ e) in record {
+    let h = holds config plans moments came cares w net records graves turns m (sym config_is ∙ e) in record {
       count = let before = h.count in let more = one_longer came new in omega (arith, last, before, more);
       causes = subst (λ (l : List SessionNow). HasCauses (scope config moments (came ++ new ∷ [])) l net' graves records) (sym sessions)
           (come_causes config moments came w.thread w.last w.sessions net net' records graves new client n admits.number h.count (ap (λ (x : NetState). x.buried) offered.offered.0) h.causes);
     }
-holds config plans moments _ _ _ _ _ _ (obeyed came w w' net net' records graves turns what count m k) e =
-    let h = holds config plans moments came w net records graves turns m (sym k.stays.config ∙ e) in record {
+holds config plans moments _ _ _ _ _ _ _ (obeyed came cares w w' net net' records graves turns what count m k) e =
+    let h = holds config plans moments came cares w net records graves turns m (sym k.stays.config ∙ e) in record {
       count = k.stays.last ∙ h.count;
       causes = stay_causes config moments came w.sessions w'.sessions net net' records graves _ _ k.cares.buries.buried k.sessions h.causes;
     }
-holds config plans moments _ _ _ _ _ _ (ticked came w w' net net' records graves turns now count m at k) e =
-    let h = holds config plans moments came w net records graves turns m (sym k.stays.config ∙ e) in record {
+holds config plans moments _ _ _ _ _ _ _ (ticked came cares w w' net net' records graves turns now count m at k) e =
+    let h = holds config plans moments came cares w net records graves turns m (sym k.stays.config ∙ e) in record {
       count = k.stays.last ∙ h.count;
       causes = stay_causes config moments came w.sessions w'.sessions net net' records graves _ _ k.cares.buries.buried k.sessions h.causes;
     }
-holds config plans moments _ _ _ _ _ _ (stepped came w w' net net' records graves turns n now r m at k) e =
-    let h = holds config plans moments came w net records graves turns m (sym k.0.stays.config ∙ e) in record {
+holds config plans moments _ _ _ _ _ _ _ (stepped came cares w w' net net' records graves turns n now r m at k) e =
+    let h = holds config plans moments came cares w net records graves turns m (sym k.0.stays.config ∙ e) in record {
       count = k.0.stays.last ∙ h.count;
       causes = step_causes config moments came w w' net net' n now r records graves at k (sym k.0.stays.config ∙ e) h.causes;
     }
-holds config plans moments _ _ _ _ _ _ (stopped_one came w w' net net' records graves turns x m k) e =
-    let h = holds config plans moments came w net records graves turns m (sym k.stays.config ∙ e) in record {
+holds config plans moments _ _ _ _ _ _ _ (stopped_one came cares w w' net net' records graves turns x m k) e =
+    let h = holds config plans moments came cares w net records graves turns m (sym k.stays.config ∙ e) in record {
       count = k.stays.last ∙ h.count;
       causes = stop_causes config moments came w w' net net' x records graves k h.causes;
     }
 
-pub causes_hold : (config : Meaning) (plans : List Plan) (moments : List Millis) (came : List ClientLine) (w : WorkerNow) (net : NetState) (records : List Told) (graves : List Grave) (turns : ℕ) → Makes plans moments came w net records graves turns
+pub causes_hold : (config : Meaning) (plans : List Plan) (moments : List Millis) (came : List ClientLine) (cares : List Care) (w : WorkerNow) (net : NetState) (records : List Told) (graves : List Grave) (turns : ℕ) → Makes plans moments came cares w net records graves turns
     → w.config ≡ config → HasCauses (scope config moments came) w.sessions net graves records
-causes_hold config plans moments came w net records graves turns m e = (holds config plans moments came w net records graves turns m e).causes
+causes_hold config plans moments came cares w net records graves turns m e = (holds config plans moments came cares w net records graves turns m e).causes

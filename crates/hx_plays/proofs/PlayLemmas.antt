@@ -20,7 +20,7 @@ use Rattle.hx_config.specs.Limits.{all_servers}
 use Rattle.hx_link.specs.Nets.{NetState}
 use Rattle.hx_record.specs.declared.served.Told.{Told}
 use Rattle.hx_run.specs.Courses.{MakesFewer}
-use Rattle.hx_run.specs.Overs.{AreOver}
+use Rattle.hx_run.specs.Overs.{AreOver, histories}
 use Rattle.hx_told.specs.Caused.{CausedByScript}
 use Rattle.hx_told.specs.Follows.{FollowsScript}
 use Rattle.hx_told.specs.Servers.{named_servers, parts_of}
@@ -69,11 +69,11 @@ tells_of script config seats t text ends e o s a f b p = record {
 pub tells_run : (script : Script) (config : Config) (seats : List Journal) (t : Transcript) (text : List ℕ) (ends : Ends) (most : ℕ) (records : List Told) (net : NetState) → config ≡ script.config
     → AreOver (all_servers script.config.backs) seats → t.servers ≡ parts_of (named_servers config.backs) seats → IsTrueTranscript t ends
     → FollowsScript script.clients script.plans ends t.clients t.conns → CausedByScript (meaning script) ends t → Spells text t
-    → t.records ≡ records → MakesFewer (meaning script) most records net
-    → (tells : TellsServers (meaning script) text) × EndsWithin (meaning script) most tells.transcript.records
+    → t.records ≡ records → MakesFewer (meaning script) most records net (histories seats)
+    → (tells : TellsServers (meaning script) text) × EndsWithin (meaning script) most tells.transcript.records tells.seats
 unfolding tells_of
 tells_run script config seats t text ends most records net e o s a f b p same m =
-    (tells_of script config seats t text ends e o s a f b p, (net, subst (λ (l : List Told). MakesFewer (meaning script) most l net) (sym same) m))
+    (tells_of script config seats t text ends e o s a f b p, (net, subst (λ (l : List Told). MakesFewer (meaning script) most l net (histories seats)) (sym same) m))
 
 at_flaw : (bytes : List ℕ) (line rule : ℕ) (f : Flaw) → meaning_of bytes ≡ Err f → fault.At line rule ≡ fault_of f → HasScriptFault bytes line rule
 at_flaw bytes line rule (flaw.Line l broken) e g =
@@ -102,7 +102,7 @@ run_plays bytes m most (replay.Text text) e one is p = record {
   reads = e;
   one = one;
   tells = p.0;
-  within = subst (λ (n : ℕ). EndsWithin m n p.0.transcript.records) is p.1;
+  within = subst (λ (n : ℕ). EndsWithin m n p.0.transcript.records p.0.seats) is p.1;
 }
 run_plays bytes m most (replay.ConfigFault line rule) e one is p = absurd p
 run_plays bytes m most (replay.ScriptFault line rule) e one is p = absurd p

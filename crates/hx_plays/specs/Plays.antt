@@ -5,6 +5,7 @@ use Rattle.hx_link.specs.Nets.{NetState}
 use Rattle.hx_pool.specs.Journal.{Journal}
 use Rattle.hx_record.specs.declared.served.Told.{Told}
 use Rattle.hx_run.specs.Courses.{MakesAll, MakesFewer}
+use Rattle.hx_run.specs.Overs.{histories}
 use Rattle.hx_script.specs.TrueTranscript.{Ends, IsTrueTranscript}
 use Rattle.hx_script.specs.Printed.{Spells}
 use Rattle.hx_script.specs.declared.transcript.Transcript.{Transcript}
@@ -43,9 +44,9 @@ pub record TellsServers (script : Meaning) (text : List ℕ) : Type 0 where
 abbrev pub most_turns : ℕ → ℕ → ℕ
 most_turns bytes clients = 16 * bytes + 64 * clients
 
--- a whole replay of the script told these records, and made fewer turns
-abbrev pub EndsWithin : Meaning → ℕ → List Told → Type 0
-EndsWithin script most records = (net : NetState) × MakesFewer script most records net
+-- a whole replay of the script told these records, left the histories of these seats, and made fewer turns
+abbrev pub EndsWithin : Meaning → ℕ → List Told → List Journal → Type 0
+EndsWithin script most records seats = (net : NetState) × MakesFewer script most records net (histories seats)
 
 -- a replay of the script made so many turns, and went on no further
 abbrev pub RunsOut : Meaning → ℕ → Type 0
@@ -58,7 +59,7 @@ pub record Plays (bytes text : List ℕ) : Type 0 where
   pub reads : meaning_of bytes ≡ Ok script
   pub one : script.config.threads ≡ 1
   pub tells : TellsServers script text
-  pub within : EndsWithin script (most_turns (length bytes) (length script.clients)) tells.transcript.records
+  pub within : EndsWithin script (most_turns (length bytes) (length script.clients)) tells.transcript.records tells.seats
 
 -- the most bytes of a script
 abbrev pub most_script : ℕ
@@ -103,6 +104,6 @@ IsPlayOf bytes (replay.Overrun turns) = Overruns bytes turns
 
 -- what a script is replayed to, where so many turns end it
 abbrev pub IsRunOf : Meaning → ℕ → Replay → Type 0
-IsRunOf script most (replay.Text text) = (tells : TellsServers script text.items) × EndsWithin script most tells.transcript.records
+IsRunOf script most (replay.Text text) = (tells : TellsServers script text.items) × EndsWithin script most tells.transcript.records tells.seats
 IsRunOf script most (replay.Overrun turns) = (turns ≡ most) × RunsOut script turns
 IsRunOf script most _ = ⊥

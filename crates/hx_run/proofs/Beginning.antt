@@ -1,5 +1,5 @@
 -- Seats at which nothing has happened hold nothing.
-use Rattle.std.proofs.Common.{◌≡◌, ◌<◌, ℕ, zero, suc, List, [], ◌∷◌, length, map, refl, sym, ap, subst, ◌∙◌, arith, Option, Some, None}
+use Rattle.std.proofs.Common.{◌≡◌, ◌<◌, ℕ, zero, suc, List, [], ◌∷◌, length, map, refl, sym, ap, subst, ◌∙◌, arith, Some, None}
 use Rattle.std.proofs.lemmas.List.Elements.{All-push, All-head, All-tail}
 use Rattle.std.specs.Prelude.{slice_get, ◌+◌, ◌-◌, ◌++◌, take, Bool, true, cond, All}
 use Rattle.hx_base.specs.declared.numbers.SessionNo.{SessionNo}
@@ -7,7 +7,7 @@ use Rattle.hx_base.specs.declared.numbers.ThreadNo.{ThreadNo}
 use Rattle.hx_config.specs.declared.parts.Server.{Server}
 use Rattle.hx_config.specs.Limits.{IsWithin, all_servers}
 use Rattle.hx_config.specs.Meaning.{Meaning}
-use Rattle.hx_plain.specs.PlainSeat.{about_alone, first_thread, IsUnused}
+use Rattle.hx_plain.specs.PlainSeat.{first_thread}
 use Rattle.hx_pool.specs.declared.entries.Note.{Note}
 use Rattle.hx_pool.specs.Held.{held_by}
 use Rattle.hx_pool.specs.SeatView.{About, History, IsOneHistory, StandsInOneHistory}
@@ -16,7 +16,7 @@ use Rattle.hx_connecting.specs.Journals.{JournalRoom, room_of}
 use Rattle.hx_pool.specs.History.{marks_of}
 use Rattle.hx_pool.specs.Journal.{Journal, journal_from}
 use Rattle.hx_session.specs.Fits.{SeatsServe}
-use Rattle.hx_worker.specs.Workers.{Each, HasSeats, OwnsAll, new_worker}
+use Rattle.hx_worker.specs.Workers.{Each, HasSeats, new_worker}
 use Rattle.hx_run.specs.Begins.{BeginsFor, BeginFor}
 use Rattle.hx_run.specs.Overs.{AreAlone, IsKept}
 use Rattle.hx_run.specs.Runs.{IsWorking}

@@ -1,7 +1,6 @@
 -- Where no session has a connection and a drain covered each place, each connection that was opened is closed.
-use Rattle.std.proofs.Common.{◌≡◌, ◌≢◌, ℕ, ◌+◌, ◌*◌, ◌<◌, ◌≤◌, Bool, true, false, cond, List, [], ◌∷◌, ◌++◌, refl, sym, ap, ◌∙◌, subst, arith, inl, inr, ◌⊎◌, ⊎_elim, eq-eqb, ne_eqb, Option, Some, None}
+use Rattle.std.proofs.Common.{◌≡◌, ◌≢◌, ℕ, ◌*◌, ◌<◌, ◌≤◌, Bool, true, false, cond, List, [], ◌∷◌, ◌++◌, refl, sym, ap, ◌∙◌, subst, arith, inl, inr, ◌⊎◌, ⊎_elim, eq-eqb, ne_eqb, Option, Some, None}
 use Rattle.std.specs.Prelude.{◌==◌, nat_lt}
-use Rattle.std.specs.List.{flat_map}
 use mathlib.Core.Logic.{dite}
 use native.Mathlib.Decide.{ℕ_discrete}
 use Rattle.std.proofs.lemmas.Bool.{eqb-true}
@@ -14,10 +13,10 @@ use Rattle.hx_base.specs.declared.what.What.{What}
 use Rattle.hx_pool.specs.declared.entries.Entry.{Entry}
 use Rattle.hx_pool.specs.declared.entries.Entry.TheVariants.{Open, Park, Take, Free, Close, Look, Up, Down, Count, Gate, SetGate, Round}
 use Rattle.hx_pool.specs.declared.entries.Note.{Note}
-use Rattle.hx_pool.specs.Causes.{place_of, IsCovered}
+use Rattle.hx_pool.specs.Causes.{IsCovered}
 use Rattle.hx_pool.specs.Held.{Hold, hold, hold_after, hold_from, Has, without, held_after, held_from, held_by}
 use Rattle.hx_pool.specs.History.{plain, is_by, is_mark, thread_of, own_of, marks_of, table_from, table_after, EachStep, MeetsNeeds}
-use Rattle.hx_pool.specs.SeatView.{About, History, AllBelow, Makes, StandsInOneHistory}
+use Rattle.hx_pool.specs.SeatView.{About, History, AllBelow, Makes}
 use Rattle.hx_pool.specs.Table.{Table, Conn, Unopened, HeldBy, IdleAt, Closed, Spot, Vacant, Holds, Leaves, spot_no, spot_at, with_spot, IsInRow, face_of, Needs, after_entry, after, empty_table}
 use Rattle.hx_pool.proofs.Emptied.{covered_empty}
 use Rattle.hx_pool.proofs.Histories.{table_from-append, EachStep-second}
@@ -25,9 +24,9 @@ use Rattle.hx_pool.proofs.Holding.{gained, same_thread}
 use Rattle.hx_pool.proofs.Owning.{with_has}
 use Rattle.hx_pool.proofs.Resting.{resting_counts}
 use Rattle.hx_pool.proofs.Rows.{ParksElsewhere, AllElsewhere}
-use Rattle.hx_pool.proofs.Tables.{put_same, put_other, spot_cases, Sound, sound_empty, sound_after}
+use Rattle.hx_pool.proofs.Tables.{put_same, put_other, spot_cases}
 use Rattle.hx_caretaker.specs.Orders.{Drains}
-use Rattle.hx_caretaker.specs.Sweeps.{Swept, swept_marks, sweep_marks}
+use Rattle.hx_caretaker.specs.Sweeps.{Swept, sweep_marks}
 use Rattle.hx_run.specs.Overs.{AllClosed}
 
 -- ---- what a table tells of each connection

@@ -1,6 +1,6 @@
 -- At the beginning of a replay nothing was told, and at its end nothing is left.
-use Rattle.std.proofs.Common.{◌≡◌, ℕ, zero, suc, ◌+◌, ◌<◌, ◌≤◌, List, [], ◌∷◌, length, map, refl, sym, ap, ◌∙◌, subst, arith, inl, ⊎_elim, Option, Some, None, Result, Err}
-use Rattle.std.specs.Prelude.{slice_get, true, ◌==◌, reverse}
+use Rattle.std.proofs.Common.{◌≡◌, ℕ, zero, suc, ◌+◌, ◌<◌, ◌≤◌, List, [], ◌∷◌, length, refl, sym, ap, ◌∙◌, subst, arith, inl, ⊎_elim, Option, Some, None, Result, Err}
+use Rattle.std.specs.Prelude.{All, Contains, slice_get, true, ◌==◌, reverse}
 use Rattle.std.proofs.lemmas.Bool.{eqb-true, and_parts}
 use Rattle.std.proofs.lemmas.List.{append-nil}
 use Rattle.hx_base.specs.declared.numbers.Millis.{Millis}
@@ -30,8 +30,12 @@ use Rattle.hx_run.specs.Begins.{BeginsFor, BeginFor}
 use Rattle.hx_planned.proofs.BeginPlans.{plans_begin}
 use Rattle.hx_script_parts.specs.Meaning.{Meaning as Script}
 use Rattle.hx_script_parts.specs.declared.script.ClientLine.{ClientLine}
+use Rattle.hx_script_parts.specs.Limits.{are_rising}
 use Rattle.hx_run.proofs.Coursing.{Has}
-use Rattle.hx_run.specs.Courses.{ComesIn, EndsCourse, EndsPlanned, HasCourse, MakesAll, MakesFewer, plan_of}
+use Rattle.hx_run.proofs.Orders.{all_to_come}
+use Rattle.hx_run.specs.Cares.{Care, DueOrder, StandInOrder, all_cares}
+use Rattle.hx_run.specs.declared.due.Due.{Due}
+use Rattle.hx_run.specs.Courses.{ComesUpTo, EndsCourse, EndsPlanned, HasCourse, MakesAll, MakesFewer}
 use Rattle.hx_run.specs.Dues.{ComeInOrder}
 use Rattle.hx_run.specs.Overs.{AllClosed, ClosedBelow}
 use Rattle.hx_run.specs.Runs.{IsWorking, RunNow}
@@ -68,7 +72,7 @@ number_at k (x ∷ ss) (suc i) s n e =
     omega (arith, r)
 
 pub begins_course : (config : Meaning) (hs : List History) (js : List JournalRoom) (plans : List Plan) (moments : List Millis) (room : ℕ) (net : MemoryNetNow) → are_numbered 0 (all_servers config.backs) ≡ true
-    → BeginFor (all_servers config.backs) hs → net ≡ new_net plans room → Has plans moments [] (new_worker first_thread config hs js) net.state [] 0
+    → BeginFor (all_servers config.backs) hs → net ≡ new_net plans room → Has plans moments [] [] (new_worker first_thread config hs js) net.state [] 0
 begins_course config hs js plans moments room net numbered b is =
     let state : net.state ≡ (new_net plans room).state = ap (λ (n : MemoryNetNow). n.state) is in
     let unused : (i : ℕ) (h : History) → slice_get hs i ≡ Some h → h.seen ≡ [] = λ i h e. (begun_at (all_servers config.backs) hs i h b e).begins.unused.seen in (
@@ -81,7 +85,7 @@ begins_course config hs js plans moments room net numbered b is =
           unused
           (inl (ap (λ (n : NetState). n.buried) state)) (inl (ap (λ (n : NetState). n.dials) state)),
       plans_begin first_thread config hs js net.state (record { plans = plans; failing = None }) unused (ap (λ (n : NetState). n.course) state) (inl (ap (λ (n : NetState). n.dials) state)),
-      subst (λ (n : NetState). Makes plans moments [] (new_worker first_thread config hs js) n [] [] 0) (sym state) (is_new config hs js room b),
+      subst (λ (n : NetState). Makes plans moments [] [] (new_worker first_thread config hs js) n [] [] 0) (sym state) (is_new config hs js room b),
     )
 
 -- ---- the end
@@ -151,25 +155,26 @@ nothing_left w k none c = record {
       (c server.0 r.seat (there_below w.seats server.0 r.seat r.at) r.at) id.0 r.place r.rests;
 }
 
-pub ends_course : (plans : List Plan) (moments : List Millis) (came : List ClientLine) (w : WorkerNow) (net : NetState) (records : List Told) (turns : ℕ) → IsWorking w → w.sessions ≡ [] → ClosedBelow (length w.seats) w.seats
-    → Has plans moments came w net records turns → EndsCourse records net
-ends_course plans moments came w net records turns k none c h = record { worker = w; graves = h.0; course = h.1; empty = nothing_left w k none c }
+pub ends_course : (plans : List Plan) (moments : List Millis) (came : List ClientLine) (cares : List Care) (w : WorkerNow) (net : NetState) (records : List Told) (turns : ℕ) → IsWorking w → w.sessions ≡ [] → ClosedBelow (length w.seats) w.seats
+    → Has plans moments came cares w net records turns → EndsCourse records net
+ends_course plans moments came cares w net records turns k none c h = record { worker = w; graves = h.0; course = h.1; empty = nothing_left w k none c }
 
 -- and each client came
-pub ends_planned : (clients ordered : List ClientLine) (plans : List Plan) (moments : List Millis) (w : WorkerNow) (net : NetState) (records : List Told) (turns : ℕ) → IsWorking w → w.sessions ≡ [] → ClosedBelow (length w.seats) w.seats
-    → ComeInOrder clients ordered → Has plans moments ordered w net records turns → EndsPlanned clients plans records net
-ends_planned clients ordered plans moments w net records turns k none c order h = record { ordered = ordered; in_order = order; worker = w; one = k.thread; graves = h.0; course = h.1; empty = nothing_left w k none c; follows = h.2 }
+pub ends_planned : (clients ordered : List ClientLine) (plans : List Plan) (moments : List Millis) (cares : List Care) (w : WorkerNow) (net : NetState) (records : List Told) (turns : ℕ) → IsWorking w → w.sessions ≡ [] → ClosedBelow (length w.seats) w.seats
+    → ComeInOrder clients ordered → Has plans moments ordered cares w net records turns → EndsPlanned clients plans records net
+ends_planned clients ordered plans moments cares w net records turns k none c order h = record { ordered = ordered; in_order = order; worker = w; one = k.thread; graves = h.0; course = h.1; empty = nothing_left w k none c; follows = h.2 }
 
--- each client came, and fewer turns were made than may be
-pub makes_fewer : (script : Script) (ordered : List ClientLine) (most : ℕ) (records : List Told) (net : NetState) (r : RunNow) → r.worker.config ≡ script.config → ComeInOrder script.clients ordered
-    → HasCourse script.plans script.moments ordered r → r.worker.sessions ≡ [] → records ≡ r.records → net ≡ r.net.state → r.turns < most → MakesFewer script most records net
-makes_fewer script ordered most records net r is order h none told left few = record {
+-- each client came, the caretaker was asked for all, and fewer turns were made than may be
+pub makes_fewer : (script : Script) (ordered : List ClientLine) (most : ℕ) (records : List Told) (net : NetState) (seats : List History) (r : RunNow) → r.worker.config ≡ script.config → ComeInOrder script.clients ordered
+    → HasCourse script.plans script.moments ordered (all_cares script) r → r.worker.sessions ≡ [] → records ≡ r.records → net ≡ r.net.state → seats ≡ r.worker.seats → r.turns < most → MakesFewer script most records net seats
+makes_fewer script ordered most records net seats r is order h none told left sits few = record {
   run = r;
   replays = record { config_is = is; ordered = ordered; in_order = order; due = []; come = (ordered, sym (append-nil ordered), h) };
   whole = refl;
   over = none;
   told = sym told;
   left = sym left;
+  seats_are = sym sits;
   fewer = few;
 }
 
@@ -180,10 +185,19 @@ same_error {E = E} e f is =
     ap (λ (x : E). Err x) same
 
 -- all turns were made that may be, before or behind the last client
-pub makes_all : (script : Script) (ordered due left : List ClientLine) (most : ℕ) (a b : RunNow) → HasCourse script.plans script.moments [] a → ComeInOrder script.clients ordered → ordered ≡ reverse due
-    → ComesIn script.moments a due b left → b.worker.config ≡ script.config → b.turns ≡ most → MakesAll script most
-makes_all script ordered due left most a b begun order is comes config_is all = record {
+pub makes_all : (script : Script) (due left : Due) (most : ℕ) (a b : RunNow) → are_rising script.moments ≡ true → StandInOrder script.orders (reverse due.orders.items) → All (λ (x : DueOrder). Contains script.moments x.0) due.orders.items
+    → HasCourse script.plans script.moments [] [] a → ComeInOrder script.clients (reverse due.clients.items) → ComesUpTo script.moments a due b left → b.worker.config ≡ script.config → b.turns ≡ most → MakesAll script most
+makes_all script due left most a b rise stand timely begun order comes config_is all = record {
   run = b;
-  replays = record { config_is = config_is; ordered = ordered; in_order = order; due = left; come = comes script.plans ordered ([], is, begun) };
+  passed = comes.passed;
+  later = comes.later;
+  parts = comes.parts;
+  replays = record {
+    config_is = config_is;
+    ordered = reverse due.clients.items;
+    in_order = order;
+    due = left.clients.items;
+    come = (comes.comes script.plans (reverse due.clients.items) script.orders rise (all_to_come script.orders due.orders.items script.moments stand timely) ([], refl, begun)).1;
+  };
   all = all;
 }

@@ -1,6 +1,6 @@
 -- What the worker's calls leave of the net's loop, and which sessions are there.
-use Rattle.std.proofs.Common.{◌≡◌, ◌<◌, ℕ, List, [], ◌∷◌, refl, sym, ap, ◌∙◌, subst, Bool, true, false, Option, Some, None, eq-eqb, ne_eqb}
-use Rattle.std.specs.Prelude.{IsSome, if◌then◌else◌, ◌==◌, nat_lt}
+use Rattle.std.proofs.Common.{◌≡◌, ◌<◌, ℕ, List, [], ◌∷◌, refl, sym, ap, ◌∙◌, subst, Bool, true, false, Option, Some, eq-eqb, ne_eqb}
+use Rattle.std.specs.Prelude.{IsSome, if◌then◌else◌, nat_lt}
 use mathlib.Core.Logic.{dite}
 use native.Mathlib.Decide.{ℕ_discrete}
 use Rattle.std.proofs.lemmas.Bool.{ltb-true}

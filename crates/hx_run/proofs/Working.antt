@@ -1,6 +1,6 @@
 -- What the worker's calls leave of its seats and journals.
-use Rattle.std.proofs.Common.{◌≡◌, ◌≢◌, ℕ, zero, suc, ◌+◌, ◌<◌, ◌≤◌, List, [], ◌∷◌, length, map, refl, sym, ap, ◌∙◌, subst, arith, inl, inr, ◌⊎◌, ⊎_elim, Option, Some, None}
-use Rattle.std.specs.Prelude.{slice_get, slice_set, ◌-◌, ◌==◌, ◌||◌, ◌&&◌, Bool, true, false, cond, Result, Ok, Err, OnOk, All, IfSome}
+use Rattle.std.proofs.Common.{◌≡◌, ◌≢◌, ℕ, zero, suc, ◌+◌, ◌<◌, ◌≤◌, List, [], ◌∷◌, length, map, refl, sym, ap, ◌∙◌, subst, arith, inl, inr, Option, Some, None}
+use Rattle.std.specs.Prelude.{slice_get, slice_set, ◌-◌, ◌==◌, ◌||◌, Bool, true, false, cond, Result, Ok, Err, OnOk, All, IfSome}
 use Rattle.hx_base.specs.declared.numbers.Millis.{Millis}
 use Rattle.hx_base.specs.declared.numbers.SessionNo.{SessionNo}
 use Rattle.hx_base.specs.declared.numbers.ServerNo.{ServerNo}
@@ -12,15 +12,14 @@ use Rattle.std.specs.List.{list_any, list_all}
 use Rattle.std.proofs.lemmas.Bool.{eqb-true, leb-true, and_parts}
 use Rattle.hx_config.specs.Meaning.{Meaning}
 use Rattle.hx_caretaker.specs.Caring.{EachSweep}
-use Rattle.hx_caretaker.specs.Orders.{OrdersAt, Obeys}
-use Rattle.hx_caretaker.specs.Rounds.{TicksAt, Ticks}
-use Rattle.hx_caretaker.specs.Sweeps.{Sweep, Sweeps, no_sweep, care_marks}
+use Rattle.hx_caretaker.specs.Orders.{OrdersAt}
+use Rattle.hx_caretaker.specs.Rounds.{TicksAt}
+use Rattle.hx_caretaker.specs.Sweeps.{Sweep, care_marks}
 use Rattle.hx_connecting.specs.Around.{abouts}
-use Rattle.hx_connecting.specs.Journals.{JournalRoom, JournalStays, JournalsStay, room_of}
+use Rattle.hx_connecting.specs.Journals.{JournalRoom, JournalsStay, room_of}
 use Rattle.hx_connecting.specs.Sessions.{SessionNow}
 use Rattle.hx_connecting.specs.Touches.{most_marks}
 use Rattle.hx_link.specs.Nets.{NetState}
-use Rattle.hx_plain.specs.PlainSeat.{first_thread, about_alone}
 use Rattle.hx_connecting.specs.Holds.{HasJust}
 use Rattle.hx_pool.specs.Held.{held_by}
 use Rattle.hx_pool.specs.declared.entries.Entry.{Entry}
@@ -34,8 +33,7 @@ use Rattle.hx_worker.specs.Steps.{Steps}
 use Rattle.hx_worker.specs.Stops.{StopsOne, StopsNext}
 use Rattle.hx_worker.specs.Workers.{WorkerNow, Each, HasSeats, StaysWorker, session_of, held_of}
 use Rattle.hx_worker.specs.Lends.{with_seat}
-use Rattle.hx_run.specs.Begins.{start}
-use Rattle.hx_run.specs.Overs.{IsAlone, AreAlone, IsKept, HasRoom, AllClosed, ClosedBelow, AreOver}
+use Rattle.hx_run.specs.Overs.{AreAlone, IsKept, HasRoom, AllClosed, ClosedBelow, AreOver}
 use Rattle.hx_run.specs.Rooms.{RoomBelow}
 use Rattle.hx_run.specs.Dues.{AreDue, IsThere}
 use Rattle.hx_run.specs.declared.due.Due.{Due}

@@ -3,6 +3,7 @@ pub use Rattle.hx_script_parts.specs.Limits
 pub use Rattle.hx_course.specs.Lines
 pub use Rattle.hx_planned.specs.Plans
 pub mod Begins
+pub mod Cares
 pub mod Dues
 pub mod Overs
 pub mod Rooms

@@ -1,5 +1,5 @@
 -- When a server's seat is over.
-use Rattle.std.specs.Prelude.{◌≡◌, ℕ, ◌<◌, ◌≤◌, List, [], ◌∷◌, Some, slice_get, ⊤}
+use Rattle.std.specs.Prelude.{◌≡◌, ℕ, ◌<◌, ◌≤◌, List, [], ◌∷◌, Some, map, slice_get, ⊤}
 use Rattle.hx_config.specs.declared.parts.Server.{Server}
 use Rattle.hx_plain.specs.PlainSeat.{about_alone}
 use Rattle.hx_pool.specs.Table.{Closed}
@@ -34,6 +34,10 @@ AllClosed h = (i : ℕ) → 1 ≤ i → i < (table_after h.seen).next → (table
 -- at each of the first seats
 abbrev pub ClosedBelow : ℕ → List History → Type 0
 ClosedBelow k seats = (i : ℕ) (h : History) → i < k → slice_get seats i ≡ Some h → AllClosed h
+
+-- the histories of seats with a journal, in order
+abbrev pub histories : List Journal → List History
+histories seats = map (λ (j : Journal). j.history) seats
 
 -- the seat was alone at the server's board under its rules, and stands in one legal history that keeps mode and limit; its
 -- journal has each mark of it; and each connection that was opened is closed

@@ -27,6 +27,7 @@ use Rattle.hx_worker.specs.Stops.{StopsOne}
 use Rattle.hx_worker.specs.Workers.{WorkerNow, new_worker}
 use Rattle.hx_worker.specs.declared.answers.Stopped.{Stopped}
 use Rattle.hx_run.specs.Begins.{BeginFor}
+use Rattle.hx_run.specs.Cares.{Care, Ordered, Ticked}
 use Rattle.hx_run.specs.Runs.{RunNow, IsRoomier}
 
 -- so many turns behind a step: one more where it moved
@@ -45,39 +46,39 @@ pub record IsOffered (plan : Plan) (net net' : NetState) (client : LinkState) : 
   pub follows : client.plan ≡ Some plan
 
 -- calls led from a new worker and a new net of these plans to this worker and this net. The clients came in this order, each at its
--- line's moment; rounds and steps were made at these moments; the calls told these records and left these links buried, in order; and
--- so many of the steps moved
-pub data Makes (plans : List Plan) (moments : List Millis) : List ClientLine → WorkerNow → NetState → List Told → List Grave → ℕ → Type 0 where
+-- line's moment; the caretaker was asked for these orders and rounds, in this order; rounds and steps were made at these moments; the
+-- calls told these records and left these links buried, in order; and so many of the steps moved
+pub data Makes (plans : List Plan) (moments : List Millis) : List ClientLine → List Care → WorkerNow → NetState → List Told → List Grave → ℕ → Type 0 where
   -- the first thread's, with a seat a server of its configuration, at which nothing has happened
   is_new : (config : Meaning) (seats : List History) (journals : List JournalRoom) (room : ℕ) → BeginFor (all_servers config.backs) seats
-      → Makes plans moments [] (new_worker first_thread config seats journals) (new_net plans room).state [] [] 0
+      → Makes plans moments [] [] (new_worker first_thread config seats journals) (new_net plans room).state [] [] 0
   -- its journals got room
-  got_room : (came : List ClientLine) (w w' : WorkerNow) (net : NetState) (records : List Told) (graves : List Grave) (turns : ℕ)
-      → Makes plans moments came w net records graves turns → IsRoomier w w' → Makes plans moments came w' net records graves turns
+  got_room : (came : List ClientLine) (cares : List Care) (w w' : WorkerNow) (net : NetState) (records : List Told) (graves : List Grave) (turns : ℕ)
+      → Makes plans moments came cares w net records graves turns → IsRoomier w w' → Makes plans moments came cares w' net records graves turns
   -- a client's session began
-  came_one : (came : List ClientLine) (w w' : WorkerNow) (net net' : NetState) (records : List Told) (graves : List Grave) (turns : ℕ)
+  came_one : (came : List ClientLine) (cares : List Care) (w w' : WorkerNow) (net net' : NetState) (records : List Told) (graves : List Grave) (turns : ℕ)
       (line : ClientLine) (client : LinkState) (n : SessionNo)
-      → Makes plans moments came w net records graves turns → IsOffered line.plan net net' client
+      → Makes plans moments came cares w net records graves turns → IsOffered line.plan net net' client
       → Admits w w' client line.front line.moment n
-      → Makes plans moments (came ++ line ∷ []) w' net' records graves turns
+      → Makes plans moments (came ++ line ∷ []) cares w' net' records graves turns
   -- an order was carried out
-  obeyed : (came : List ClientLine) (w w' : WorkerNow) (net net' : NetState) (records : List Told) (graves : List Grave) (turns : ℕ)
+  obeyed : (came : List ClientLine) (cares : List Care) (w w' : WorkerNow) (net net' : NetState) (records : List Told) (graves : List Grave) (turns : ℕ)
       (what : Order) (count : ℕ)
-      → Makes plans moments came w net records graves turns → (k : CarriesOut w w' net net' what count)
-      → Makes plans moments came w' net' records (graves ++ sweep_graves 0 k.cares.sweeps) turns
+      → Makes plans moments came cares w net records graves turns → (k : CarriesOut w w' net net' what count)
+      → Makes plans moments came (cares ++ Ordered what ∷ []) w' net' records (graves ++ sweep_graves 0 k.cares.sweeps) turns
   -- the caretaker made its round
-  ticked : (came : List ClientLine) (w w' : WorkerNow) (net net' : NetState) (records : List Told) (graves : List Grave) (turns : ℕ)
+  ticked : (came : List ClientLine) (cares : List Care) (w w' : WorkerNow) (net net' : NetState) (records : List Told) (graves : List Grave) (turns : ℕ)
       (now : Millis) (count : ℕ)
-      → Makes plans moments came w net records graves turns → Contains moments now → (k : TicksAll w w' net net' now count)
-      → Makes plans moments came w' net' records (graves ++ sweep_graves 0 k.cares.sweeps) turns
+      → Makes plans moments came cares w net records graves turns → Contains moments now → (k : TicksAll w w' net net' now count)
+      → Makes plans moments came (cares ++ Ticked now ∷ []) w' net' records (graves ++ sweep_graves 0 k.cares.sweeps) turns
   -- a session made a step, a turn where it moved
-  stepped : (came : List ClientLine) (w w' : WorkerNow) (net net' : NetState) (records : List Told) (graves : List Grave) (turns : ℕ)
+  stepped : (came : List ClientLine) (cares : List Care) (w w' : WorkerNow) (net net' : NetState) (records : List Told) (graves : List Grave) (turns : ℕ)
       (n : SessionNo) (now : Millis) (r : Step)
-      → Makes plans moments came w net records graves turns → Contains moments now → (k : StepsAt w w' net net' n now.0 r)
-      → Makes plans moments came w' net' (records ++ lines_of r.served r.left) (graves ++ step_graves w w' net net' n r k.0)
+      → Makes plans moments came cares w net records graves turns → Contains moments now → (k : StepsAt w w' net net' n now.0 r)
+      → Makes plans moments came cares w' net' (records ++ lines_of r.served r.left) (graves ++ step_graves w w' net net' n r k.0)
       (turns_after r.moved turns)
   -- the session of the least number was stopped
-  stopped_one : (came : List ClientLine) (w w' : WorkerNow) (net net' : NetState) (records : List Told) (graves : List Grave) (turns : ℕ)
+  stopped_one : (came : List ClientLine) (cares : List Care) (w w' : WorkerNow) (net net' : NetState) (records : List Told) (graves : List Grave) (turns : ℕ)
       (x : Stopped)
-      → Makes plans moments came w net records graves turns → (k : StopsOne w w' net net' x)
-      → Makes plans moments came w' net' (records ++ lines_of x.served (Some x.left)) (graves ++ stop_graves w w' net net' x k) turns
+      → Makes plans moments came cares w net records graves turns → (k : StopsOne w w' net net' x)
+      → Makes plans moments came cares w' net' (records ++ lines_of x.served (Some x.left)) (graves ++ stop_graves w w' net net' x k) turns

@@ -1,5 +1,5 @@
 //! A replay under way.
-ghost use Rattle.std.specs.Prelude.{◌≡◌, ◌+◌, ◌^◌, ◌<◌, ◌≤◌, ◌++◌, [], true, false, ℕ, All, IfOk, OnOk, IsSome, List, Ok, Err, length, map};
+ghost use Rattle.std.specs.Prelude.{◌≡◌, ◌+◌, ◌^◌, ◌<◌, ◌≤◌, ◌++◌, [], ◌∷◌, true, false, ℕ, All, IfOk, OnOk, IsSome, List, Ok, Err, length, map};
 ghost use Rattle.hx_base.specs.declared.numbers.Millis.{Millis};
 ghost use Rattle.hx_config.specs.Limits.{all_servers};
 ghost use Rattle.hx_config.specs.Views.{meaning};
@@ -13,7 +13,9 @@ ghost use Rattle.hx_pool.specs.Journal.{Journal, journal_from};
 ghost use Rattle.hx_run.specs.Overs.{HasRoom, ClosedBelow};
 ghost use Rattle.hx_run.specs.Rooms.{RoomBelow};
 ghost use Rattle.hx_run.specs.Runs.{GoesOn, IsRun, IsWorking, IsRoomier, CarriedOut, Ticked, StopsFirst};
-ghost use Rattle.hx_run.specs.Courses.{ComesOn, HasCourse, KeepsAt, KeepsOn, StepsOn};
+ghost use Rattle.hx_base.specs.declared.order.Order.TheVariants.{Drain};
+ghost use Rattle.hx_run.specs.Cares.{Ordered, drains_below};
+ghost use Rattle.hx_run.specs.Courses.{CaresOn, ComesOn, HasCourse, KeepsAt, KeepsOn, StepsOn, TicksOn};
 ghost use Rattle.hx_course.specs.Lines.{lines_of};
 ghost use Rattle.hx_run.specs.declared.running.Halt.TheVariants as halt;
 
@@ -156,7 +158,7 @@ impl<'a> Running<'a> {
         requires plans { All IsPlan plans.items }
         ensures config { IfOk result (λ r. r.worker.config ≡ meaning config.now) }
         ensures empty { IfOk result (λ r. (r.worker.sessions ≡ []) × (r.records ≡ []) × (r.turns ≡ 0) × (r.most ≡ most)) }
-        ensures course { IfOk result (λ r. (moments : List Millis) → HasCourse plans.items moments [] r) }
+        ensures course { IfOk result (λ r. (moments : List Millis) → HasCourse plans.items moments [] [] r) }
     {
         let seats = seats_of(alloc, config)?;
         let net = MemoryNet::new(alloc, plans, room)?;
@@ -213,7 +215,7 @@ impl<'a> Running<'a> {
         ensures sessions { self.new.worker.sessions ≡ self.old.worker.sessions }
         ensures turns { self.new.turns ≡ self.old.turns }
         ensures carries { OnOk result (CarriedOut what self.old.worker.seats self.new.worker.seats) }
-        ensures course { OnOk result (KeepsOn self.old self.new) }
+        ensures course { OnOk result (CaresOn (Ordered what ∷ []) self.old self.new) }
         ensures run { IsRun self.old × IsRun self.new }
     {
         make_room(&mut self.worker, CARE_MARKS)?;
@@ -230,7 +232,7 @@ impl<'a> Running<'a> {
         ensures sessions { self.new.worker.sessions ≡ self.old.worker.sessions }
         ensures turns { self.new.turns ≡ self.old.turns }
         ensures ticks { OnOk result (Ticked now self.old.worker.seats self.new.worker.seats) }
-        ensures course { OnOk result (KeepsAt now self.old self.new) }
+        ensures course { OnOk result (TicksOn now self.old self.new) }
     {
         make_room(&mut self.worker, CARE_MARKS)?;
         self.worker.tick(&mut self.net, now);
@@ -397,7 +399,7 @@ impl<'a> Running<'a> {
         ensures turns { self.new.turns ≡ self.old.turns }
         ensures closed { (k : ℕ) → k ≡ server.0 → ClosedBelow k self.old.worker.seats
             → OnOk result (ClosedBelow (k + 1) self.new.worker.seats) }
-        ensures course { OnOk result (KeepsOn self.old self.new) }
+        ensures course { OnOk result (CaresOn (Ordered (Drain server) ∷ []) self.old self.new) }
     {
         self.order(Order::Drain(server))
     }
@@ -422,7 +424,7 @@ impl<'a> Running<'a> {
         ensures empty { self.new.worker.sessions ≡ [] }
         ensures turns { self.new.turns ≡ self.old.turns }
         ensures closed { OnOk result (ClosedBelow (length self.new.worker.seats) self.new.worker.seats) }
-        ensures course { OnOk result (KeepsOn self.old self.new) }
+        ensures course { OnOk result (CaresOn (drains_below (length (all_servers self.old.worker.config.backs))) self.old self.new) }
     {
         let mut at = 0;
         while at < self.servers() {

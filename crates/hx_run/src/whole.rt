@@ -3,12 +3,13 @@ ghost use Rattle.std.specs.Prelude.{◌≡◌, ◌<◌, [], false, Err, IfOk, On
 ghost use Rattle.hx_config.specs.Limits.{all_servers};
 ghost use Rattle.hx_script_parts.specs.Views.{meaning};
 ghost use Rattle.hx_run.specs.Dues.{AreDue};
-ghost use Rattle.hx_run.specs.Overs.{AreOver};
-ghost use Rattle.hx_run.specs.Courses.{ComesAll, ComesAt, ComesIn, EndsCourse, EndsPlanned, KeepsOn, MakesAll, MakesFewer};
+ghost use Rattle.hx_run.specs.Overs.{AreOver, histories};
+ghost use Rattle.hx_run.specs.Cares.{LastIsOther};
+ghost use Rattle.hx_run.specs.Courses.{ComesAll, ComesAt, ComesIn, ComesUpTo, EndsCourse, EndsPlanned, MakesAll, MakesFewer, ObeysAll};
 ghost use Rattle.hx_run.specs.Runs.{GoesOn};
 ghost use Rattle.hx_run.specs.declared.running.Halt.TheVariants as halt;
 
-use crate::due::{Due, clients_due, orders_due};
+use crate::due::{Due, all_have_moments, clients_due, orders_due};
 use crate::ran::Ran;
 use crate::running::{Halt, Running};
 use hx_base::{Items, Millis, NoMemory};
@@ -22,7 +23,8 @@ fn run_orders(running: &mut Running<'_>, due: &mut Due, now: Millis) -> Result<(
     ensures due { AreDue running.old.worker.config due.new }
     ensures clients { due.new.clients.items ≡ due.old.clients.items }
     ensures turns { running.new.turns ≡ running.old.turns }
-    ensures course { OnOk result (KeepsOn running.old running.new) }
+    ensures course { OnOk result (ObeysAll now running.old due.old.orders.items running.new due.new.orders.items) }
+    ensures other { OnOk result (LastIsOther now due.new.orders.items) }
 {
     while let Some(what) = due.order(now) {
         running.order(what)?;
@@ -36,6 +38,7 @@ fn run_clients(running: &mut Running<'_>, due: &mut Due, now: Millis) -> Result<
     ensures goes { GoesOn running.old running.new }
     ensures due { AreDue running.old.worker.config due.new }
     ensures turns { running.new.turns ≡ running.old.turns }
+    ensures orders { due.new.orders.items ≡ due.old.orders.items }
     ensures course { OnOk result (ComesAll running.old due.old.clients.items running.new due.new.clients.items) }
 {
     while let Some(line) = due.client(now) {
@@ -51,10 +54,9 @@ fn run_moment(running: &mut Running<'_>, due: &mut Due, now: Millis) -> Result<(
     ensures due { AreDue running.old.worker.config due.new }
     ensures left { running.old.turns < running.old.most → OnOk result (running.new.turns < running.new.most) }
     ensures overrun { result ≡ Err halt.Overrun → running.new.turns ≡ running.new.most }
-    // what was told and buried, whose clients came, and how many turns were made
-    ensures course { OnOk result (ComesAt now running.old due.old.clients.items running.new due.new.clients.items) }
-    ensures stops { result ≡ Err halt.Overrun
-        → ComesAt now running.old due.old.clients.items running.new due.new.clients.items }
+    // what was told and buried, whose clients came, what the caretaker was asked for, and how many turns were made
+    ensures course { OnOk result (ComesAt now running.old due.old running.new due.new) }
+    ensures stops { result ≡ Err halt.Overrun → ComesAt now running.old due.old running.new due.new }
 {
     run_orders(running, due, now)?;
     run_clients(running, due, now)?;
@@ -68,10 +70,9 @@ fn run_moments(running: &mut Running<'_>, due: &mut Due, moments: &[Millis]) -> 
     ensures goes { GoesOn running.old running.new }
     ensures left { OnOk result (running.new.turns < running.new.most) }
     ensures overrun { result ≡ Err halt.Overrun → running.new.turns ≡ running.new.most }
-    // what was told and buried, whose clients came, and how many turns were made
-    ensures course { OnOk result (ComesIn moments.now running.old due.old.clients.items running.new due.new.clients.items) }
-    ensures stops { result ≡ Err halt.Overrun
-        → ComesIn moments.now running.old due.old.clients.items running.new due.new.clients.items }
+    // what was told and buried, whose clients came, what the caretaker was asked for, and how many turns were made
+    ensures course { OnOk result (ComesIn moments.now moments.now [] running.old due.old running.new due.new) }
+    ensures stops { result ≡ Err halt.Overrun → ComesUpTo moments.now running.old due.old running.new due.new }
 {
     running.may_turn()?;
     for now in moments {
@@ -107,7 +108,7 @@ pub fn run_script(alloc: Global, script: Script, most: u64) -> Result<Ran, Halt>
     ensures course { IfOk result (λ ran. EndsCourse ran.records ran.net.state) }
     ensures plans { IfOk result (λ ran. EndsPlanned script.clients script.plans ran.records ran.net.state) }
     // the turns: fewer, or just as many
-    ensures within { IfOk result (λ ran. MakesFewer (meaning script) most ran.records ran.net.state) }
+    ensures within { IfOk result (λ ran. MakesFewer (meaning script) most ran.records ran.net.state (histories ran.seats)) }
     ensures overrun { result ≡ Err halt.Overrun → MakesAll (meaning script) most }
 {
     let Script {
@@ -123,6 +124,7 @@ pub fn run_script(alloc: Global, script: Script, most: u64) -> Result<Ran, Halt>
         clients: clients_due(clients)?,
         orders: orders_due(orders)?,
     };
+    all_have_moments(due.orders.as_slice(), moments.as_slice())?;
     let room = plans.len() + due.clients.len();
     let mut running = Running::new(alloc, &config, plans, room, most)?;
     run_moments(&mut running, &mut due, moments.as_slice())?;

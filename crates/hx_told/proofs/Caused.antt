@@ -25,7 +25,9 @@ use Rattle.hx_link.specs.Told.{LinkState}
 use Rattle.hx_record.specs.declared.bytes.ClientBytes.{ClientBytes}
 use Rattle.hx_record.specs.declared.bytes.ConnBytes.{ConnBytes}
 use Rattle.hx_record.specs.declared.served.Told.{Told}
+use Rattle.hx_run.specs.Cares.{all_cares}
 use Rattle.hx_run.specs.Courses.{MakesFewer}
+use Rattle.hx_pool.specs.SeatView.{History}
 use Rattle.hx_script.specs.PrintedForm.{Rises, ConnBefore}
 use Rattle.hx_script.specs.declared.transcript.Transcript.{Transcript}
 use Rattle.hx_script_parts.specs.Meaning.{Meaning}
@@ -80,7 +82,7 @@ client_of_grave clients t n before link c there tells grows =
       sent = (x.0.sent, sent.0, b.1, sym y.3 ∙ sent.1);
     }
 
-module _ (script : Meaning) (most : ℕ) (records : List Told) (net : MemoryNetNow) (clients : List ClientBytes) (conns : List ConnBytes) (m : MakesFewer script most records net.state) (tells : TellsLinks records net clients conns) (rise : Rises ConnBefore conns) where
+module _ (script : Meaning) (most : ℕ) (records : List Told) (net : MemoryNetNow) (clients : List ClientBytes) (conns : List ConnBytes) (seats : List History) (m : MakesFewer script most records net.state seats) (tells : TellsLinks records net clients conns) (rise : Rises ConnBefore conns) where
   came : List ClientLine
   came = m.replays.come.0
 
@@ -113,20 +115,20 @@ module _ (script : Meaning) (most : ℕ) (records : List Told) (net : MemoryNetN
   pub each_caused : (x : Told) → Contains records x → CausedLine (scope script.config script.moments m.replays.ordered) (IsToldClient clients) (IsToldConn conns (ends_of net.links)) x
   each_caused x there =
       let h = m.replays.come in
-      let causes = causes_hold script.config script.plans script.moments h.0 m.run.worker m.run.net.state m.run.records h.2.0 m.run.turns h.2.3 m.replays.config_is in
+      let causes = causes_hold script.config script.plans script.moments h.0 (all_cares script) m.run.worker m.run.net.state m.run.records h.2.0 m.run.turns h.2.3 m.replays.config_is in
       told_by script.config script.moments h.0 m.replays.ordered (λ s line. subst (λ (l : List ClientLine). IsOfLine l s) all_came line) (WentOn m.run.worker.sessions h.2.0) (IsToldClient clients) known
       (WasBuried m.run.net.state.buried h.2.0) (IsToldConn conns (ends_of net.links)) gone x
       (causes.told x (subst (λ (l : List Told). Contains l x) (sym m.told) there))
 
 -- a transcript of these parts tells so
-pub ok_caused : (script : Meaning) (most : ℕ) (net : MemoryNetNow) (records : List Told) (clients : List ClientBytes) (conns : List ConnBytes) (r : Result Transcript NoMemory) → TellsLinks records net clients conns → Rises ConnBefore conns
-    → IfOk r (λ t. t.records ≡ records) → IfOk r (λ t. t.clients ≡ clients) → IfOk r (λ t. t.conns ≡ conns) → MakesFewer script most records net.state → IfOk r (CausedByScript script (ends_of net.links))
-ok_caused script most net records clients conns (Ok t) tells rise x y z m = record {
+pub ok_caused : (script : Meaning) (most : ℕ) (net : MemoryNetNow) (seats : List History) (records : List Told) (clients : List ClientBytes) (conns : List ConnBytes) (r : Result Transcript NoMemory) → TellsLinks records net clients conns → Rises ConnBefore conns
+    → IfOk r (λ t. t.records ≡ records) → IfOk r (λ t. t.clients ≡ clients) → IfOk r (λ t. t.conns ≡ conns) → MakesFewer script most records net.state seats → IfOk r (CausedByScript script (ends_of net.links))
+ok_caused script most net seats records clients conns (Ok t) tells rise x y z m = record {
   ordered = m.replays.ordered;
   in_order = m.replays.in_order;
   caused = λ v there.
       subst (λ (cs : List ClientBytes). CausedLine (scope script.config script.moments m.replays.ordered) (IsToldClient cs) (IsToldConn t.conns (ends_of net.links)) v) (sym y)
       (subst (λ (cs : List ConnBytes). CausedLine (scope script.config script.moments m.replays.ordered) (IsToldClient clients) (IsToldConn cs (ends_of net.links)) v) (sym z)
-      (each_caused script most records net clients conns m tells rise v (subst (λ (rs : List Told). Contains rs v) x there)));
+      (each_caused script most records net clients conns seats m tells rise v (subst (λ (rs : List Told). Contains rs v) x there)));
 }
-ok_caused script most net records clients conns (Err e) tells rise x y z m = tt
+ok_caused script most net seats records clients conns (Err e) tells rise x y z m = tt

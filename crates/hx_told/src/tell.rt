@@ -3,7 +3,7 @@ ghost use Rattle.std.specs.Prelude.{◌≡◌, ℕ, All, IfOk, List, length};
 ghost use Rattle.hx_base.specs.declared.plan.Plan.{Plan};
 ghost use Rattle.hx_config.specs.Limits.{all_servers};
 ghost use Rattle.hx_run.specs.Courses.{EndsCourse, EndsPlanned, MakesFewer};
-ghost use Rattle.hx_run.specs.Overs.{AreOver};
+ghost use Rattle.hx_run.specs.Overs.{AreOver, histories};
 ghost use Rattle.hx_script.specs.PrintedForm.{ClientBefore, ConnBefore, Rises, IsToldServer};
 ghost use Rattle.hx_script.specs.TrueTranscript.{IsTrueTranscript};
 ghost use Rattle.hx_script_parts.specs.Meaning.{Meaning};
@@ -100,7 +100,7 @@ pub fn tell_run(alloc: Global, ran: Ran) -> Result<Transcript, NoMemory>
     ensures ended { IfOk result (λ t. All (EndsByPlan ran.net.links) t.conns) }
     ensures plans { (lines : List ClientLine) (plans : List Plan) → EndsPlanned lines plans ran.records ran.net.state
         → IfOk result (λ t. FollowsScript lines plans (ends_of ran.net.links) t.clients t.conns) }
-    ensures causes { (script : Meaning) (most : ℕ) → MakesFewer script most ran.records ran.net.state
+    ensures causes { (script : Meaning) (most : ℕ) → MakesFewer script most ran.records ran.net.state (histories ran.seats)
         → IfOk result (CausedByScript script (ends_of ran.net.links)) }
     ensures servers { IfOk result (λ t. t.servers
         ≡ parts_of (named_servers ran.config.backs) ran.seats) }

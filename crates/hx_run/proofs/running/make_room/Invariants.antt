@@ -1,4 +1,4 @@
-use Rattle.std.proofs.Common.{◌≡◌, ◌-◌, ◌≤◌, length}
+use Rattle.std.proofs.Common.{◌-◌, length}
 use Rattle.hx_run.specs.Rooms.{RoomBelow}
 use Rattle.hx_run.specs.Runs.{IsWorking, IsRoomier}
 use Rattle.hx_run.proofs.running.make_room.Given as goal

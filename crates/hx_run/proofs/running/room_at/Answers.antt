@@ -1,4 +1,4 @@
-use Rattle.std.proofs.Common.{◌≡◌, ◌≤◌, ◌+◌, Some, List, sym, ap, ◌∙◌, subst}
+use Rattle.std.proofs.Common.{◌≤◌, ◌+◌, Some, sym, ap, ◌∙◌, subst}
 use Rattle.hx_connecting.specs.Journals.{JournalRoom, room_of}
 use Rattle.hx_pool.specs.Journal.{Journal, journal_from}
 use Rattle.hx_pool.specs.SeatView.{History}

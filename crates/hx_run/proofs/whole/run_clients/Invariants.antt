@@ -7,7 +7,7 @@ use Rattle.hx_run.proofs.whole.run_clients.Given as goal
 abbrev pub invariant-loop-line : goal.invariant-loop-line
 invariant-loop-line l =
     GoesOn l.fn.running l.running × AreDue l.fn.running.worker.config l.due
-    × ComesAll l.fn.running l.fn.due.clients.items l.running l.due.clients.items × (l.running.turns ≡ l.fn.running.turns)
+    × (l.due.orders.items ≡ l.fn.due.orders.items) × ComesAll l.fn.running l.fn.due.clients.items l.running l.due.clients.items × (l.running.turns ≡ l.fn.running.turns)
 
 abbrev pub decreases-loop-line : goal.decreases-loop-line
 decreases-loop-line l = length l.due.clients.items

@@ -6,14 +6,14 @@ use Rattle.hx_run.proofs.whole.run_moment.Goals as goal
 pub returns-clause-course : goal.returns-clause-course
 returns-clause-course c =
     on_ok_map c.rounds.result
-    (comes_moment c.args.now c.args.running.now c.run_orders.new.running c.run_clients.new.running c.tick.new.self c.rounds.new.self c.args.due.now.clients.items c.run_orders.new.due.clients.items c.run_clients.new.due.clients.items
-    c.run_orders.ensures.clients c.in_ok-run_orders.ensures.course c.in_ok-run_clients.ensures.course c.in_ok-tick.ensures.course)
+    (comes_moment c.args.now c.args.running.now c.run_orders.new.running c.run_clients.new.running c.tick.new.self c.rounds.new.self c.args.due.now c.run_orders.new.due c.run_clients.new.due
+    c.run_orders.ensures.clients c.in_ok-run_orders.ensures.course c.in_ok-run_orders.ensures.other c.in_ok-run_clients.ensures.course c.run_clients.ensures.orders c.in_ok-tick.ensures.course)
     c.rounds.ensures.course
 
 pub returns-clause-stops : goal.returns-clause-stops
 returns-clause-stops c = λ is.
-    comes_moment c.args.now c.args.running.now c.run_orders.new.running c.run_clients.new.running c.tick.new.self c.rounds.new.self c.args.due.now.clients.items c.run_orders.new.due.clients.items c.run_clients.new.due.clients.items
-    c.run_orders.ensures.clients c.in_ok-run_orders.ensures.course c.in_ok-run_clients.ensures.course c.in_ok-tick.ensures.course (c.rounds.ensures.stops is)
+    comes_moment c.args.now c.args.running.now c.run_orders.new.running c.run_clients.new.running c.tick.new.self c.rounds.new.self c.args.due.now c.run_orders.new.due c.run_clients.new.due
+    c.run_orders.ensures.clients c.in_ok-run_orders.ensures.course c.in_ok-run_orders.ensures.other c.in_ok-run_clients.ensures.course c.run_clients.ensures.orders c.in_ok-tick.ensures.course (c.rounds.ensures.stops is)
 
 pub returns-clause-left : goal.returns-clause-left
 returns-clause-left c = λ few.

@@ -9,6 +9,7 @@ use Rattle.hx_script.specs.TrueTranscript.{AreTrueServers}
 use Rattle.hx_told.specs.declared.servers.Named.{Named}
 use Rattle.hx_told.specs.Servers.{IsWhole, all_sums, named_servers, parts_of}
 use Rattle.hx_told.specs.Telling.{TellsLinks}
+use Rattle.hx_run.specs.Overs.{histories}
 use Rattle.hx_told.proofs.Caused.{ok_caused}
 use Rattle.hx_told.proofs.Follows.{ok_follows}
 use Rattle.hx_told.proofs.Overs.{true_servers}
@@ -57,4 +58,4 @@ returns-clause-causes c = λ script most m.
     let conns : List ConnBytes = c.in_ok-links.links.conns.items in
     let links : TellsLinks c.args.ran.records c.args.ran.net clients conns =
     subst (λ (rs : List Told). TellsLinks rs c.args.ran.net clients conns) c.as_slice-3.ensures c.in_ok-links.ensures.links in
-    ok_caused script most c.args.ran.net c.args.ran.records clients conns c.put_together.result links c.in_ok-links.ensures.conns c.put_together.ensures.records c.put_together.ensures.clients c.put_together.ensures.conns m
+    ok_caused script most c.args.ran.net (histories c.args.ran.seats) c.args.ran.records clients conns c.put_together.result links c.in_ok-links.ensures.conns c.put_together.ensures.records c.put_together.ensures.clients c.put_together.ensures.conns m

@@ -1,4 +1,4 @@
-use Rattle.std.proofs.Common.{◌≡◌, ◌+◌, ℕ, [], sym, subst, ◌∙◌}
+use Rattle.std.proofs.Common.{◌+◌, ℕ, sym, subst, ◌∙◌}
 use Rattle.hx_run.specs.Overs.{ClosedBelow}
 use Rattle.hx_run.proofs.Working.{on_ok_map, drained_next}
 use Rattle.hx_run.proofs.running.Running.drain.Goals as goal

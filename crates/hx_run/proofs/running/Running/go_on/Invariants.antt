@@ -1,4 +1,4 @@
-use Rattle.std.proofs.Common.{◌-◌, ◌^◌, length, IsSome}
+use Rattle.std.proofs.Common.{◌-◌, IsSome}
 use Rattle.hx_run.specs.Courses.{KeepsAt}
 use Rattle.hx_run.specs.Runs.{GoesOn}
 use Rattle.hx_worker.specs.Workers.{session_of}

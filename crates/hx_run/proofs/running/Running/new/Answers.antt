@@ -23,6 +23,6 @@ pub returns-clause-course : goal.returns-clause-course
 returns-clause-course c = λ moments.
     let plans = c.args.plans.items in
     let state = c.in_ok-net.net.state in
-    subst (λ (records : List Told). Has plans moments [] c.in_ok-worker.worker state records 0) (sym c.new-3.ensures.items)
-    (subst (λ (w : WorkerNow). Has plans moments [] w state [] 0) (sym c.in_ok-worker.ensures.begins)
+    subst (λ (records : List Told). Has plans moments [] [] c.in_ok-worker.worker state records 0) (sym c.new-3.ensures.items)
+    (subst (λ (w : WorkerNow). Has plans moments [] [] w state [] 0) (sym c.in_ok-worker.ensures.begins)
     (begins_course (meaning c.args.config.now) _ _ plans moments c.args.room c.in_ok-net.net c.args.config.now.within.numbered c.in_ok-seats.ensures.begin c.in_ok-net.ensures.begins))

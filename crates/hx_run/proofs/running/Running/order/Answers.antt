@@ -15,4 +15,4 @@ returns-clause-run c = (
 )
 
 pub returns-clause-course : goal.returns-clause-course
-returns-clause-course c = λ plans moments came h. ordered_course plans moments came _ _ _ _ _ _ _ _ _ c.make_room.ensures.same c.order.ensures.orders (subst (HasCourse plans moments came) (sym c.self.view_is) h)
+returns-clause-course c = λ plans moments came cares h. ordered_course plans moments came cares _ _ _ _ _ _ _ _ _ c.make_room.ensures.same c.order.ensures.orders (subst (HasCourse plans moments came cares) (sym c.self.view_is) h)

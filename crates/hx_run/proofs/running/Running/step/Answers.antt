@@ -17,5 +17,5 @@ pub returns-clause-stays : goal.returns-clause-stays
 returns-clause-stays c = λ no. steps_there _ _ _ _ _ _ c.step-step.ensures.steps no
 
 pub returns-clause-course : goal.returns-clause-course
-returns-clause-course c = λ plans moments came at h.
-    stepped_course plans moments came _ _ _ _ _ _ _ _ _ _ _ at c.make_room.ensures.same c.step-step.ensures.timely c.make_room.ensures.working.seats c.step-step.ensures.seats c.in_ok-tell.ensures (subst (HasCourse plans moments came) (sym c.self.view_is) h)
+returns-clause-course c = λ plans moments came cares at h.
+    stepped_course plans moments came cares _ _ _ _ _ _ _ _ _ _ _ at c.make_room.ensures.same c.step-step.ensures.timely c.make_room.ensures.working.seats c.step-step.ensures.seats c.in_ok-tell.ensures (subst (HasCourse plans moments came cares) (sym c.self.view_is) h)

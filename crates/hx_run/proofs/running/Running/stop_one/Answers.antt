@@ -13,9 +13,9 @@ invariant_of-self-in-Some c =
     stopped_run _ _ _ _ _ _ _ c.self.invariant c.make_room.ensures.working c.in_ok-make_room.ensures.room c.stop_next.ensures.stops c.in-Some.is c.stop_next.ensures.seats
 
 pub returns-in_ok-tell-in-Some-clause-course : goal.returns-in_ok-tell-in-Some-clause-course
-returns-in_ok-tell-in-Some-clause-course c = λ plans moments came h.
-    stopped_course plans moments came _ _ _ _ _ _ _ _ _ _ c.make_room.ensures.same c.stop_next.ensures.stops c.in-Some.is c.make_room.ensures.working.seats c.in_ok-tell-in-Some.ensures (subst (HasCourse plans moments came) (sym c.self.view_is) h)
+returns-in_ok-tell-in-Some-clause-course c = λ plans moments came cares h.
+    stopped_course plans moments came cares _ _ _ _ _ _ _ _ _ _ c.make_room.ensures.same c.stop_next.ensures.stops c.in-Some.is c.make_room.ensures.working.seats c.in_ok-tell-in-Some.ensures (subst (HasCourse plans moments came cares) (sym c.self.view_is) h)
 
 pub returns-in-None-clause-course : goal.returns-in-None-clause-course
-returns-in-None-clause-course c = λ plans moments came h.
-    none_course plans moments came _ _ _ _ _ _ _ _ c.make_room.ensures.same c.stop_next.ensures.stops c.in-None.is (subst (HasCourse plans moments came) (sym c.self.view_is) h)
+returns-in-None-clause-course c = λ plans moments came cares h.
+    none_course plans moments came cares _ _ _ _ _ _ _ _ c.make_room.ensures.same c.stop_next.ensures.stops c.in-None.is (subst (HasCourse plans moments came cares) (sym c.self.view_is) h)

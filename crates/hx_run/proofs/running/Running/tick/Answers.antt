@@ -8,4 +8,4 @@ pub invariant_of-self-2 : goal.invariant_of-self-2
 invariant_of-self-2 c = ticked_run _ _ _ _ _ _ c.self.invariant c.make_room.ensures.working c.in_ok-make_room.ensures.room c.tick.ensures.ticks c.tick.ensures.seats
 
 pub returns-clause-course : goal.returns-clause-course
-returns-clause-course c = λ plans moments came at h. ticked_course plans moments came _ _ _ _ _ _ _ _ _ at c.make_room.ensures.same c.tick.ensures.ticks (subst (HasCourse plans moments came) (sym c.self.view_is) h)
+returns-clause-course c = λ plans moments came cares at h. ticked_course plans moments came cares _ _ _ _ _ _ _ _ _ at c.make_room.ensures.same c.tick.ensures.ticks (subst (HasCourse plans moments came cares) (sym c.self.view_is) h)

@@ -6,15 +6,15 @@ use Rattle.hx_run.proofs.Coursing.{moved_on, still_on}
 use Rattle.hx_run.proofs.running.Running.turn.Goals as goal
 
 pub returns-in_err-may_turn-2-clause-stops : goal.returns-in_err-may_turn-2-clause-stops
-returns-in_err-may_turn-2-clause-stops c = λ is plans moments came at h.
-    subst (λ (r : RunNow). HasCourse plans moments came (counted true r)) (sym c.self.view_is)
-    (moved_on plans moments came c.in_ok-step.step.moved c.step.new.self c.if-step.true (c.in_ok-step.ensures.course plans moments came at h))
+returns-in_err-may_turn-2-clause-stops c = λ is plans moments came cares at h.
+    subst (λ (r : RunNow). HasCourse plans moments came cares (counted true r)) (sym c.self.view_is)
+    (moved_on plans moments came cares c.in_ok-step.step.moved c.step.new.self c.if-step.true (c.in_ok-step.ensures.course plans moments came cares at h))
 
 pub returns-in_ok-may_turn-2-clause-course : goal.returns-in_ok-may_turn-2-clause-course
-returns-in_ok-may_turn-2-clause-course c = λ plans moments came at h.
-    subst (λ (r : RunNow). HasCourse plans moments came (counted true r)) (sym c.self.view_is)
-    (moved_on plans moments came c.in_ok-step.step.moved c.step.new.self c.if-step.true (c.in_ok-step.ensures.course plans moments came at h))
+returns-in_ok-may_turn-2-clause-course c = λ plans moments came cares at h.
+    subst (λ (r : RunNow). HasCourse plans moments came cares (counted true r)) (sym c.self.view_is)
+    (moved_on plans moments came cares c.in_ok-step.step.moved c.step.new.self c.if-step.true (c.in_ok-step.ensures.course plans moments came cares at h))
 
 pub returns-else-step-clause-course : goal.returns-else-step-clause-course
-returns-else-step-clause-course c = λ plans moments came at h.
-    still_on plans moments came c.in_ok-step.step.moved c.step.new.self c.if-step.false (c.in_ok-step.ensures.course plans moments came at h)
+returns-else-step-clause-course c = λ plans moments came cares at h.
+    still_on plans moments came cares c.in_ok-step.step.moved c.step.new.self c.if-step.false (c.in_ok-step.ensures.course plans moments came cares at h)
