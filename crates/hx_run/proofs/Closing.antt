@@ -245,15 +245,15 @@ below_behind k [] ys b = b
 below_behind k (x ∷ xs) ys b = below_behind k xs ys b.1
 
 -- none of them is a Park
-abbrev NoPark : Entry → Type 0
+abbrev pub NoPark : Entry → Type 0
 NoPark (Park t n id place uses) = ⊥
 NoPark _ = Unit {0}
 
-abbrev NoParks : List Entry → Type 0
+abbrev pub NoParks : List Entry → Type 0
 NoParks [] = Unit {0}
 NoParks (e ∷ es) = NoPark e × NoParks es
 
-sweeps_park : (t : ThreadNo) (swept : List Swept) → NoParks (sweep_marks t swept)
+pub sweeps_park : (t : ThreadNo) (swept : List Swept) → NoParks (sweep_marks t swept)
 sweeps_park t [] = tt
 sweeps_park t (x ∷ swept) = (tt, (tt, sweeps_park t swept))
 
@@ -273,7 +273,7 @@ elsewhere_one row (Round t k old) es p =
     let go : (b : Bool) → NoParks (cond b (Round t k old ∷ es) es) → NoParks es = λ b. elim b as (λ b. NoParks (cond b (Round t k old ∷ es) es) → NoParks es) [ true ↦ λ q. q.1 | false ↦ λ q. q ] in
     (tt, go (nat_lt old k) p)
 
-elsewhere : (row : ℕ) (xs : List Note) → NoParks (marks_of xs) → AllElsewhere row xs
+pub elsewhere : (row : ℕ) (xs : List Note) → NoParks (marks_of xs) → AllElsewhere row xs
 elsewhere row [] p = tt
 elsewhere row (x ∷ xs) p = let r = elsewhere_one row x.entry (marks_of xs) p in (r.0, elsewhere row xs r.1)
 
