@@ -4,6 +4,7 @@ use Rattle.hx_config.specs.Limits.{all_servers}
 use Rattle.hx_link.specs.Nets.{NetState}
 use Rattle.hx_pool.specs.Journal.{Journal}
 use Rattle.hx_record.specs.declared.served.Told.{Told}
+use Rattle.hx_run.specs.Cares.{all_cares}
 use Rattle.hx_run.specs.Courses.{MakesAll, MakesFewer}
 use Rattle.hx_run.specs.Overs.{histories}
 use Rattle.hx_script.specs.TrueTranscript.{Ends, IsTrueTranscript}
@@ -14,6 +15,7 @@ use Rattle.hx_script_parts.specs.Meaning.{Meaning, longest_text, meaning_of}
 use Rattle.hx_script_parts.specs.declared.fault.Flaw.TheVariants as flaw
 use Rattle.hx_script_parts.specs.declared.fault.Rule.{Rule}
 use Rattle.hx_script_parts.specs.declared.fault.Rule.TheVariants.{BadWorker}
+use Rattle.hx_told.specs.CaredFor.{AreCaredFor}
 use Rattle.hx_told.specs.Caused.{CausedByScript}
 use Rattle.hx_told.specs.Follows.{FollowsScript}
 use Rattle.hx_told.specs.Servers.{named_servers, parts_of}
@@ -22,12 +24,14 @@ use Rattle.hx_plays.specs.declared.plays.Replay.TheVariants as replay
 
 -- of the transcript some connections count as ended: all that it tells is true, and its clients are those of the script's lines,
 -- one to one by moment and line, its connections followed the script's plans, only one whose plan has an end counts as ended, and each
--- record has its cause by the script
+-- record has its cause by the script; and the marks of each server show its orders, a drain at the end and its rounds: by moment and by line,
+-- each with what the caretaker closed behind it
 pub record TellsScript (script : Meaning) (t : Transcript) : Type 0 where
   pub ends : Ends
   pub is_true : IsTrueTranscript t ends
   pub follows : FollowsScript script.clients script.plans ends t.clients t.conns
   pub causes : CausedByScript script ends t
+  pub cared : AreCaredFor (all_cares script) 0 t.servers
 
 -- the text spells a transcript whose servers are those of the configuration, in order, by name and rules, each with the marks
 -- of one journal; and all that it tells is true and of the script's lines: each record, each range, each client and connection,

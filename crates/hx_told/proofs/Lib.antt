@@ -3,6 +3,7 @@ pub mod Dials
 pub mod Each
 pub mod Ending
 pub mod Follows
+pub mod CaredFor
 pub mod Caused
 pub mod Names
 pub mod Overs

@@ -37,7 +37,7 @@ from_start : (j : Journal) (b : Bool) → b ≡ true → cond b (Some (length (m
 from_start j true w e = cc
 from_start j false w e = absurd (cc)
 
-all_stored : (j : Journal) → IsWhole j → journal_from j ≡ Some 0 → j.stored ≡ marks_of j.history.mine
+pub all_stored : (j : Journal) → IsWhole j → journal_from j ≡ Some 0 → j.stored ≡ marks_of j.history.mine
 all_stored j w k = w.recounts ∙ ap (λ n. drop n (marks_of j.history.mine)) (from_start j j.whole w.whole k)
 
 true_server : (n : Named) (s : Server) (j : Journal) → n.rules ≡ s.rules → IsOver s j → IsWhole j → IsTrueServer (part_of n j) (sums_of j)
@@ -55,7 +55,7 @@ true_server n s j rules o w =
     }
 
 -- the server has its own rules by these names
-abbrev HasRules : Named → Server → Type 0
+abbrev pub HasRules : Named → Server → Type 0
 HasRules n s = n.rules ≡ s.rules
 
 true_seats : (names : List Named) (servers : List Server) (seats : List Journal) → AllZip HasRules names servers → AreOver servers seats → All IsWhole seats
@@ -78,7 +78,7 @@ back_rules : (b : Back) (servers : List Server) → AllZip HasRules (map (named_
 back_rules b [] = tt
 back_rules b (s ∷ servers) = (refl, back_rules b servers)
 
-all_rules : (backs : List Back) → AllZip HasRules (named_servers backs) (all_servers backs)
+pub all_rules : (backs : List Back) → AllZip HasRules (named_servers backs) (all_servers backs)
 all_rules [] = tt
 all_rules (b ∷ backs) = zip_both (map (named_of b) b.servers) (named_servers backs) b.servers (all_servers backs) (back_rules b b.servers) (all_rules backs)
 

@@ -8,6 +8,8 @@ ghost use Rattle.hx_script.specs.PrintedForm.{ClientBefore, ConnBefore, Rises, I
 ghost use Rattle.hx_script.specs.TrueTranscript.{IsTrueTranscript};
 ghost use Rattle.hx_script_parts.specs.Meaning.{Meaning};
 ghost use Rattle.hx_script_parts.specs.declared.script.ClientLine.{ClientLine};
+ghost use Rattle.hx_run.specs.Cares.{all_cares};
+ghost use Rattle.hx_told.specs.CaredFor.{AreCaredFor};
 ghost use Rattle.hx_told.specs.Caused.{CausedByScript};
 ghost use Rattle.hx_told.specs.Ends.{ends_of, EndsByPlan};
 ghost use Rattle.hx_told.specs.Follows.{FollowsScript};
@@ -87,7 +89,7 @@ fn put_together(
 /// records, and the bytes of all links that were buried. The k-th session that ended is that of the k-th link that was
 /// buried and not dialled. All that it tells is true, and a connection ended just where its link told its end. Where each
 /// link followed its plan in a script, the clients are those of the script's lines, and the connections followed its plans. Where
-/// the records are those of a replay of a script, each has its cause there.
+/// the records are those of a replay of a script, each has its cause there, and the marks of each server show its orders and rounds.
 ///
 /// # Errors
 /// `NoMemory` for want of memory, now or before, so that a mark or a byte isn't kept; and where the parts don't fit
@@ -102,6 +104,8 @@ pub fn tell_run(alloc: Global, ran: Ran) -> Result<Transcript, NoMemory>
         → IfOk result (λ t. FollowsScript lines plans (ends_of ran.net.links) t.clients t.conns) }
     ensures causes { (script : Meaning) (most : ℕ) → MakesFewer script most ran.records ran.net.state (histories ran.seats)
         → IfOk result (CausedByScript script (ends_of ran.net.links)) }
+    ensures cares { (script : Meaning) (most : ℕ) → MakesFewer script most ran.records ran.net.state (histories ran.seats)
+        → IfOk result (λ t. AreCaredFor (all_cares script) 0 t.servers) }
     ensures servers { IfOk result (λ t. t.servers
         ≡ parts_of (named_servers ran.config.backs) ran.seats) }
     ensures totals { IfOk result (λ t. t.totals ≡ all_sums ran.seats) }

@@ -10,6 +10,8 @@ use Rattle.hx_told.specs.declared.servers.Named.{Named}
 use Rattle.hx_told.specs.Servers.{IsWhole, all_sums, named_servers, parts_of}
 use Rattle.hx_told.specs.Telling.{TellsLinks}
 use Rattle.hx_run.specs.Overs.{histories}
+use Rattle.std.specs.Prelude.{IfOk}
+use Rattle.hx_told.proofs.CaredFor.{ok_cared}
 use Rattle.hx_told.proofs.Caused.{ok_caused}
 use Rattle.hx_told.proofs.Follows.{ok_follows}
 use Rattle.hx_told.proofs.Overs.{true_servers}
@@ -59,3 +61,14 @@ returns-clause-causes c = λ script most m.
     let links : TellsLinks c.args.ran.records c.args.ran.net clients conns =
     subst (λ (rs : List Told). TellsLinks rs c.args.ran.net clients conns) c.as_slice-3.ensures c.in_ok-links.ensures.links in
     ok_caused script most c.args.ran.net (histories c.args.ran.seats) c.args.ran.records clients conns c.put_together.result links c.in_ok-links.ensures.conns c.put_together.ensures.records c.put_together.ensures.clients c.put_together.ensures.conns m
+
+pub returns-clause-cares : goal.returns-clause-cares
+returns-clause-cares c = λ script most m.
+    let seats : List Journal = c.args.ran.seats in
+    let told : List ServerPart = parts_of (named_servers c.args.ran.config.backs) seats in
+    let servers : c.in_ok-servers.servers.items ≡ told =
+    c.in_ok-servers.ensures.parts ∙ ap (λ (ns : List Named). parts_of ns c.as_slice.result.now) c.in_ok-names.ensures.servers
+    ∙ ap (parts_of (named_servers c.args.ran.config.backs)) c.as_slice.ensures in
+    let whole : All IsWhole seats = subst (λ (js : List Journal). All IsWhole js) c.as_slice.ensures c.in_ok-servers.ensures.whole in
+    ok_cared script most c.args.ran.records c.args.ran.net.state c.args.ran.config.backs seats c.put_together.result m c.requires.over whole
+    (subst (λ (l : List ServerPart). IfOk c.put_together.result (λ t. t.servers ≡ l)) servers c.put_together.ensures.servers)
