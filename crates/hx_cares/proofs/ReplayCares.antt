@@ -131,10 +131,10 @@ holds plans moments _ _ _ _ _ _ _ (obeyed came cares w w' net net' records grave
 holds plans moments _ _ _ _ _ _ _ (ticked came cares w w' net net' records graves turns now count m at k) = λ i h e.
     let r = sweeps_back (TicksAt now) 0 w.seats w'.seats k.cares.sweeps i h k.cares.each e in
     tick_stands now i cares r.before h r.sweep r.does (holds plans moments came cares w net records graves turns m i r.before r.was)
-holds plans moments _ _ _ _ _ _ _ (stepped came cares w w' net net' records graves turns n now r m at k) =
+holds plans moments _ _ _ _ _ _ _ (stepped came cares w w' net net' records graves turns n now r m at seats k) =
     let lines = (causes_hold w.config plans moments came cares w net records graves turns m refl).lines in
     session_all cares k.0.session w.seats w'.seats (lines k.0.session (found_in w.sessions n.0 k.0.session k.0.there)).low k.0.step.adds (holds plans moments came cares w net records graves turns m)
-holds plans moments _ _ _ _ _ _ _ (stopped_one came cares w w' net net' records graves turns x m k) =
+holds plans moments _ _ _ _ _ _ _ (stopped_one came cares w w' net net' records graves turns x m k stood) =
     let lines = (causes_hold w.config plans moments came cares w net records graves turns m refl).lines in
     session_all cares k.session w.seats w'.seats (lines k.session (subst (λ (l : List SessionNow). Contains l k.session) (sym k.least) (first_in k.session k.others))).low k.stop.adds (holds plans moments came cares w net records graves turns m)
 

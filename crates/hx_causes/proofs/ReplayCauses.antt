@@ -229,12 +229,12 @@ holds config plans moments _ _ _ _ _ _ _ (ticked came cares w w' net net' record
       count = k.stays.last ∙ h.count;
       causes = stay_causes config moments came w.sessions w'.sessions net net' records graves _ _ k.cares.buries.buried k.sessions h.causes;
     }
-holds config plans moments _ _ _ _ _ _ _ (stepped came cares w w' net net' records graves turns n now r m at k) e =
+holds config plans moments _ _ _ _ _ _ _ (stepped came cares w w' net net' records graves turns n now r m at seats k) e =
     let h = holds config plans moments came cares w net records graves turns m (sym k.0.stays.config ∙ e) in record {
       count = k.0.stays.last ∙ h.count;
       causes = step_causes config moments came w w' net net' n now r records graves at k (sym k.0.stays.config ∙ e) h.causes;
     }
-holds config plans moments _ _ _ _ _ _ _ (stopped_one came cares w w' net net' records graves turns x m k) e =
+holds config plans moments _ _ _ _ _ _ _ (stopped_one came cares w w' net net' records graves turns x m k stood) e =
     let h = holds config plans moments came cares w net records graves turns m (sym k.stays.config ∙ e) in record {
       count = k.stays.last ∙ h.count;
       causes = stop_causes config moments came w w' net net' x records graves k h.causes;

@@ -40,6 +40,8 @@ use Rattle.hx_run.specs.Cares.{Care, Ordered, Ticked, AreToCome, DueOrder, LastI
 use Rattle.hx_run.specs.Courses.{CaresOn, ComesAll, ComesAt, ComesIn, ComesOn, ComesUpTo, HasCome, HasCourse, KeepsAt, ObeysAll, TicksOn, plan_of}
 use Rattle.hx_run.specs.declared.due.Due.{Due}
 use Rattle.hx_run.specs.Runs.{IsRoomier, RunNow}
+use Rattle.hx_run.proofs.Standing.{least_stood}
+use Rattle.hx_run.specs.Standings.{AllStoodLast}
 use Rattle.hx_run.specs.Turns.{Makes, counted, turns_after, got_room, came_one, obeyed, ticked, stepped, stopped_one}
 
 abbrev Both : List Plan → List ClientLine → WorkerNow → NetState → List Told → List Grave → Type 0
@@ -92,21 +94,21 @@ stepped_course plans moments came cares w r w' net net' n now x records records'
       graves,
       subst (λ (l : List Told). KeepsCourse w' net' l graves) (sym told) (course_step r w' net net' n x k.0 records z.0 seats seats' z.1),
       plans_step r w' net net' n x k.0 records (map plan_of came) plans z.0 z.1 z.2,
-      subst (λ (l : List Told). Makes plans moments came cares w' net' l graves (turns_after x.moved turns)) (sym told) (stepped came cares r w' net net' records z.0 turns n now x z.3 at k),
+      subst (λ (l : List Told). Makes plans moments came cares w' net' l graves (turns_after x.moved turns)) (sym told) (stepped came cares r w' net net' records z.0 turns n now x z.3 at seats k),
     )
 
 -- a stop, with what it told
 pub stopped_course : (plans : List Plan) (moments : List Millis) (came : List ClientLine) (cares : List Care) (w r w' : WorkerNow) (net net' : NetState) (o : Option Stopped) (x : Stopped) (records records' : List Told) (turns : ℕ) → IsRoomier w r
-    → StopsNext r w' net net' o → o ≡ Some x → HasSeats r → records' ≡ records ++ lines_of x.served (Some x.left) → Has plans moments came cares w net records turns
+    → StopsNext r w' net net' o → o ≡ Some x → HasSeats r → AllStoodLast moments w → records' ≡ records ++ lines_of x.served (Some x.left) → Has plans moments came cares w net records turns
     → Has plans moments came cares w' net' records' turns
-stopped_course plans moments came cares w r w' net net' o x records records' turns same s is seats told h =
+stopped_course plans moments came cares w r w' net net' o x records records' turns same s is seats stood told h =
     let k : StopsOne r w' net net' x = subst (λ (p : Option Stopped). StopsNext r w' net net' p) is s in
     let z = roomier plans moments came cares w r net records turns same h in
     let graves : List Grave = z.0 ++ stop_graves r w' net net' x k in (
       graves,
       subst (λ (l : List Told). KeepsCourse w' net' l graves) (sym told) (course_stop r w' net net' x k records z.0 seats z.1),
       plans_stop r w' net net' x k records (map plan_of came) plans z.0 z.1 z.2,
-      subst (λ (l : List Told). Makes plans moments came cares w' net' l graves turns) (sym told) (stopped_one came cares r w' net net' records z.0 turns x z.3 k),
+      subst (λ (l : List Told). Makes plans moments came cares w' net' l graves turns) (sym told) (stopped_one came cares r w' net net' records z.0 turns x z.3 k (least_stood moments w r w' net net' x k same stood)),
     )
 
 -- a net that buried and dialled the same

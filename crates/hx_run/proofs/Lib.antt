@@ -5,3 +5,4 @@ pub mod Working
 pub mod Orders
 pub mod Coursing
 pub mod Ending
+pub mod Standing

@@ -19,6 +19,7 @@ use Rattle.hx_run.specs.Cares.{Care, Ordered, Ticked, DueOrder, AreToCome, all_c
 use Rattle.hx_run.specs.Dues.{ComeInOrder}
 use Rattle.hx_run.specs.declared.due.Due.{Due}
 use Rattle.hx_run.specs.Runs.{RunNow}
+use Rattle.hx_run.specs.Standings.{AllStoodLast}
 use Rattle.hx_run.specs.Turns.{Makes, counted}
 
 -- the plan of a client's link
@@ -45,6 +46,12 @@ abbrev pub KeepsOn : RunNow → RunNow → Type 0
 KeepsOn a b =
     (plans : List Plan) (moments : List Millis) (came : List ClientLine) (cares : List Care) → HasCourse plans moments came cares a
     → HasCourse plans moments came cares b
+
+-- so does the stop of sessions that stood still at the last moment
+abbrev pub StopsOn : RunNow → RunNow → Type 0
+StopsOn a b =
+    (plans : List Plan) (moments : List Millis) (came : List ClientLine) (cares : List Care) → AllStoodLast moments a.worker
+    → HasCourse plans moments came cares a → HasCourse plans moments came cares b
 
 -- nor in a call at a moment
 abbrev pub KeepsAt : Millis → RunNow → RunNow → Type 0

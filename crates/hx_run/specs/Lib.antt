@@ -10,3 +10,4 @@ pub mod Rooms
 pub mod Runs
 pub mod Turns
 pub mod Courses
+pub mod Standings

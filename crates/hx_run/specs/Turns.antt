@@ -24,11 +24,12 @@ use Rattle.hx_worker.specs.Admitting.{Admits}
 use Rattle.hx_worker.specs.Cares.{TicksAll, CarriesOut}
 use Rattle.hx_worker.specs.Steps.{StepsAt}
 use Rattle.hx_worker.specs.Stops.{StopsOne}
-use Rattle.hx_worker.specs.Workers.{WorkerNow, new_worker}
+use Rattle.hx_worker.specs.Workers.{WorkerNow, HasSeats, new_worker}
 use Rattle.hx_worker.specs.declared.answers.Stopped.{Stopped}
 use Rattle.hx_run.specs.Begins.{BeginFor}
 use Rattle.hx_run.specs.Cares.{Care, Ordered, Ticked}
 use Rattle.hx_run.specs.Runs.{RunNow, IsRoomier}
+use Rattle.hx_run.specs.Standings.{StoodLast}
 
 -- so many turns behind a step: one more where it moved
 abbrev pub turns_after : Bool → ℕ → ℕ
@@ -71,14 +72,15 @@ pub data Makes (plans : List Plan) (moments : List Millis) : List ClientLine →
       (now : Millis) (count : ℕ)
       → Makes plans moments came cares w net records graves turns → Contains moments now → (k : TicksAll w w' net net' now count)
       → Makes plans moments came (cares ++ Ticked now ∷ []) w' net' records (graves ++ sweep_graves 0 k.cares.sweeps) turns
-  -- a session made a step, a turn where it moved
+  -- a session made a step, a turn where it moved; before it the seats held just what the sessions had
   stepped : (came : List ClientLine) (cares : List Care) (w w' : WorkerNow) (net net' : NetState) (records : List Told) (graves : List Grave) (turns : ℕ)
       (n : SessionNo) (now : Millis) (r : Step)
-      → Makes plans moments came cares w net records graves turns → Contains moments now → (k : StepsAt w w' net net' n now.0 r)
+      → Makes plans moments came cares w net records graves turns → Contains moments now → HasSeats w
+      → (k : StepsAt w w' net net' n now.0 r)
       → Makes plans moments came cares w' net' (records ++ lines_of r.served r.left) (graves ++ step_graves w w' net net' n r k.0)
       (turns_after r.moved turns)
-  -- the session of the least number was stopped
+  -- the session of the least number, which stood still at the last moment, was stopped
   stopped_one : (came : List ClientLine) (cares : List Care) (w w' : WorkerNow) (net net' : NetState) (records : List Told) (graves : List Grave) (turns : ℕ)
       (x : Stopped)
-      → Makes plans moments came cares w net records graves turns → (k : StopsOne w w' net net' x)
+      → Makes plans moments came cares w net records graves turns → (k : StopsOne w w' net net' x) → StoodLast moments k.session
       → Makes plans moments came cares w' net' (records ++ lines_of x.served (Some x.left)) (graves ++ stop_graves w w' net net' x k) turns

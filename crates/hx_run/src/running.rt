@@ -15,8 +15,10 @@ ghost use Rattle.hx_run.specs.Rooms.{RoomBelow};
 ghost use Rattle.hx_run.specs.Runs.{GoesOn, IsRun, IsWorking, IsRoomier, CarriedOut, Ticked, StopsFirst};
 ghost use Rattle.hx_base.specs.declared.order.Order.TheVariants.{Drain};
 ghost use Rattle.hx_run.specs.Cares.{Ordered, drains_below};
-ghost use Rattle.hx_run.specs.Courses.{CaresOn, ComesOn, HasCourse, KeepsAt, KeepsOn, StepsOn, TicksOn};
+ghost use Rattle.hx_run.specs.Courses.{CaresOn, ComesOn, HasCourse, KeepsAt, KeepsOn, StepsOn, StopsOn, TicksOn};
 ghost use Rattle.hx_course.specs.Lines.{lines_of};
+ghost use Rattle.hx_run.specs.Standings.{AllStood, StandsAlone, StaysStood};
+ghost use Rattle.hx_run.specs.Turns.{counted};
 ghost use Rattle.hx_run.specs.declared.running.Halt.TheVariants as halt;
 
 use crate::seats::{RunSeat, seats_of};
@@ -263,6 +265,7 @@ impl<'a> Running<'a> {
         ensures stays { IfOk result (λ r. (r.waits ≡ Ended → ⊥) → IsSome (session_of self.new.worker.sessions n.0)) }
         ensures told { IfOk result (λ r. self.new.records ≡ self.old.records ++ lines_of r.served r.left) }
         ensures course { IfOk result (λ r. StepsOn now r.moved self.old self.new) }
+        ensures stood { IfOk result (λ r. StandsAlone now n self.old (counted r.moved self.new)) }
     {
         make_room(&mut self.worker, STEP_MARKS)?;
         let step = self.worker.step(&mut self.net, n, now);
@@ -282,6 +285,7 @@ impl<'a> Running<'a> {
         ensures left { OnOk result (self.new.turns < self.new.most) }
         ensures overrun { result ≡ Err halt.Overrun → self.new.turns ≡ self.new.most }
         ensures there { result ≡ Ok true → IsSome (session_of self.new.worker.sessions n.0) }
+        ensures stood { OnOk result (StandsAlone now n self.old self.new) }
         // what was told and buried, and how many turns were made
         ensures course { OnOk result (KeepsAt now self.old self.new) }
         ensures stops { result ≡ Err halt.Overrun → KeepsAt now self.old self.new }
@@ -307,6 +311,7 @@ impl<'a> Running<'a> {
         ensures within { self.new.turns ≤ self.new.most }
         ensures left { OnOk result (self.new.turns < self.new.most) }
         ensures overrun { result ≡ Err halt.Overrun → self.new.turns ≡ self.new.most }
+        ensures stood { OnOk result (StandsAlone now n self.old self.new) }
         ensures course { OnOk result (KeepsAt now self.old self.new) }
         ensures stops { result ≡ Err halt.Overrun → KeepsAt now self.old self.new }
     {
@@ -327,6 +332,7 @@ impl<'a> Running<'a> {
         ensures within { self.new.turns ≤ self.new.most }
         ensures left { self.old.turns < self.old.most → OnOk result (self.new.turns < self.new.most) }
         ensures overrun { result ≡ Err halt.Overrun → self.new.turns ≡ self.new.most }
+        ensures stood { result ≡ Ok false → AllStood now self.new.worker }
         // what was told and buried, and how many turns were made
         ensures course { OnOk result (KeepsAt now self.old self.new) }
         ensures stops { result ≡ Err halt.Overrun → KeepsAt now self.old self.new }
@@ -350,6 +356,7 @@ impl<'a> Running<'a> {
         ensures left { self.old.turns < self.old.most → OnOk result (self.new.turns < self.new.most) }
         ensures overrun { result ≡ Err halt.Overrun → self.new.turns ≡ self.new.most }
         ensures still { OnOk result (self.new.last ≡ 0) }
+        ensures stood { OnOk result (AllStood now self.new.worker) }
         ensures course { OnOk result (KeepsAt now self.old self.new) }
         ensures stops { result ≡ Err halt.Overrun → KeepsAt now self.old self.new }
     {
@@ -364,7 +371,9 @@ impl<'a> Running<'a> {
         ensures none { result ≡ Ok false → self.new.worker.sessions ≡ [] }
         ensures stops { result ≡ Ok true → StopsFirst self.old self.new }
         ensures turns { self.new.turns ≡ self.old.turns }
-        ensures course { OnOk result (KeepsOn self.old self.new) }
+        // sessions that stood still at the last moment
+        ensures course { OnOk result (StopsOn self.old self.new) }
+        ensures stood { OnOk result (StaysStood self.old self.new) }
     {
         make_room(&mut self.worker, STEP_MARKS)?;
         match self.worker.stop_next(&mut self.net) {
@@ -384,7 +393,7 @@ impl<'a> Running<'a> {
         ensures goes { GoesOn self.old self.new }
         ensures gone { OnOk result (self.new.worker.sessions ≡ []) }
         ensures turns { self.new.turns ≡ self.old.turns }
-        ensures course { OnOk result (KeepsOn self.old self.new) }
+        ensures course { OnOk result (StopsOn self.old self.new) }
     {
         while self.stop_one()? {}
         Ok(())

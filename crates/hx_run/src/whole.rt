@@ -7,6 +7,7 @@ ghost use Rattle.hx_run.specs.Overs.{AreOver, histories};
 ghost use Rattle.hx_run.specs.Cares.{LastIsOther};
 ghost use Rattle.hx_run.specs.Courses.{ComesAll, ComesAt, ComesIn, ComesUpTo, EndsCourse, EndsPlanned, MakesAll, MakesFewer, ObeysAll};
 ghost use Rattle.hx_run.specs.Runs.{GoesOn};
+ghost use Rattle.hx_run.specs.Standings.{AllStood, AllStoodLast};
 ghost use Rattle.hx_run.specs.declared.running.Halt.TheVariants as halt;
 
 use crate::due::{Due, all_have_moments, clients_due, orders_due};
@@ -56,6 +57,7 @@ fn run_moment(running: &mut Running<'_>, due: &mut Due, now: Millis) -> Result<(
     ensures overrun { result ≡ Err halt.Overrun → running.new.turns ≡ running.new.most }
     // what was told and buried, whose clients came, what the caretaker was asked for, and how many turns were made
     ensures course { OnOk result (ComesAt now running.old due.old running.new due.new) }
+    ensures stood { OnOk result (AllStood now running.new.worker) }
     ensures stops { result ≡ Err halt.Overrun → ComesAt now running.old due.old running.new due.new }
 {
     run_orders(running, due, now)?;
@@ -67,11 +69,13 @@ fn run_moment(running: &mut Running<'_>, due: &mut Due, now: Millis) -> Result<(
 /// The moments in order. A replay that may make no turn overruns before the first one.
 fn run_moments(running: &mut Running<'_>, due: &mut Due, moments: &[Millis]) -> Result<(), Halt>
     requires due { AreDue running.old.worker.config due.old }
+    requires empty { running.old.worker.sessions ≡ [] }
     ensures goes { GoesOn running.old running.new }
     ensures left { OnOk result (running.new.turns < running.new.most) }
     ensures overrun { result ≡ Err halt.Overrun → running.new.turns ≡ running.new.most }
     // what was told and buried, whose clients came, what the caretaker was asked for, and how many turns were made
     ensures course { OnOk result (ComesIn moments.now moments.now [] running.old due.old running.new due.new) }
+    ensures stood { OnOk result (AllStoodLast moments.now running.new.worker) }
     ensures stops { result ≡ Err halt.Overrun → ComesUpTo moments.now running.old due.old running.new due.new }
 {
     running.may_turn()?;

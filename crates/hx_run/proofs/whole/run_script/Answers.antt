@@ -19,6 +19,7 @@ use Rattle.hx_run.proofs.Coursing.{all_come}
 use Rattle.hx_run.proofs.Ending.{ends_course, ends_planned, makes_all, makes_fewer, same_error}
 use Rattle.hx_run.proofs.Working.{all_plans, all_due, run_over}
 use Rattle.hx_run.proofs.Orders.{all_to_come}
+use Rattle.hx_run.specs.Standings.{AllStoodLast}
 use Rattle.hx_run.specs.Courses.{ComesIn, ComesUpTo, EndsCourse, EndsPlanned, HasCourse}
 use Rattle.hx_run.specs.declared.due.Due.{Due}
 use Rattle.hx_run.proofs.whole.run_script.Goals as goal
@@ -32,6 +33,7 @@ new-requires c = record {
 pub run_moments-requires : goal.run_moments-requires
 run_moments-requires c =
     let script = c.args.script in record {
+      empty = c.in_ok-running.ensures.empty.0;
       due = subst (λ (m : Meaning). AreDue m (record { clients = c.in_ok-clients_due.field-0; orders = c.in_ok-orders_due.field-0 })) (sym c.in_ok-running.ensures.config)
           (all_due (meaning script.config) script.config.within script.clients script.orders
           (record { clients = c.in_ok-clients_due.field-0; orders = c.in_ok-orders_due.field-0 })
@@ -73,7 +75,8 @@ followed c =
     let config : c.stop_all.new.self.worker.config ≡ meaning script.config =
     c.in_ok-stop_all.ensures.goes.config ∙ c.in_ok-run_moments.ensures.goes.config ∙ c.in_ok-running.ensures.config in
     subst (λ (m : Meaning). HasCourse plans moments (ordered c) (cares_at script.orders moments ++ drains_below (length (all_servers m.backs))) c.drain_all.new.self) config
-    (c.in_ok-drain_all.ensures.course plans moments (ordered c) (cares_at script.orders moments) (c.in_ok-stop_all.ensures.course plans moments (ordered c) (cares_at script.orders moments) came))
+    (c.in_ok-drain_all.ensures.course plans moments (ordered c) (cares_at script.orders moments) (c.in_ok-stop_all.ensures.course plans moments (ordered c) (cares_at script.orders moments)
+    (subst (λ (l : List Millis). AllStoodLast l c.run_moments.new.running.worker) c.as_slice-3.ensures c.in_ok-run_moments.ensures.stood) came))
 
 pub returns-clause-course : goal.returns-clause-course
 returns-clause-course c =

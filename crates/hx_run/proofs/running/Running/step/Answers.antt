@@ -1,8 +1,10 @@
-use Rattle.std.proofs.Common.{sym, subst}
+use Rattle.std.proofs.Common.{refl, sym, ap, subst}
 use Rattle.hx_run.proofs.Going.{steps_there}
 use Rattle.hx_run.proofs.Working.{stepped_run}
 use Rattle.hx_run.specs.Courses.{HasCourse}
+use Rattle.hx_run.specs.Runs.{IsRoomier, RunNow}
 use Rattle.hx_run.proofs.Coursing.{stepped_course}
+use Rattle.hx_run.proofs.Standing.{step_stands}
 use Rattle.hx_run.proofs.running.Running.step.Goals as goal
 
 pub invariant_of-self-in_err-tell : goal.invariant_of-self-in_err-tell
@@ -19,3 +21,7 @@ returns-clause-stays c = λ no. steps_there _ _ _ _ _ _ c.step-step.ensures.step
 pub returns-clause-course : goal.returns-clause-course
 returns-clause-course c = λ plans moments came cares at h.
     stepped_course plans moments came cares _ _ _ _ _ _ _ _ _ _ _ at c.make_room.ensures.same c.step-step.ensures.timely c.make_room.ensures.working.seats c.step-step.ensures.seats c.in_ok-tell.ensures (subst (HasCourse plans moments came cares) (sym c.self.view_is) h)
+
+pub returns-clause-stood : goal.returns-clause-stood
+returns-clause-stood c =
+    step_stands c.args.self.now _ _ _ _ _ _ _ _ (subst (λ (r : RunNow). IsRoomier r.worker c.make_room.new.worker) c.self.view_is c.make_room.ensures.same) refl (ap (λ (r : RunNow). r.turns) c.self.view_is) c.step-step.ensures.timely
