@@ -1,5 +1,5 @@
 -- The SetGates and Rounds among such marks are just those that were asked for.
-use Rattle.std.proofs.Common.{◌≡◌, ◌≢◌, ◌⊎◌, inl, inr, ⊎_elim, ℕ, ◌<◌, ◌≤◌, ◌++◌, Bool, true, false, cond, List, [], ◌∷◌, refl, sym, ap, ◌∙◌, subst, arith, append-nil, append_assoc, eq-eqb, ne_eqb}
+use Rattle.std.proofs.Common.{◌≡◌, ◌≢◌, ◌⊎◌, inl, inr, ⊎_elim, ℕ, zero, suc, ◌<◌, ◌≤◌, ◌++◌, Bool, true, false, cond, List, [], ◌∷◌, refl, sym, ap, ◌∙◌, subst, arith, append-nil, append_assoc, eq-eqb, ne_eqb}
 use Rattle.std.specs.Prelude.{nat_lt, if◌then◌else◌, ◌==◌}
 use Rattle.std.specs.List.{flat_map}
 use Rattle.std.proofs.lemmas.Bool.{le-ltb, lt-ltb}
@@ -17,7 +17,7 @@ use Rattle.hx_connecting.specs.Touches.{IsOf}
 use Rattle.hx_plain.specs.PlainSeat.{first_thread}
 use Rattle.hx_pool.specs.declared.entries.Entry.{Entry}
 use Rattle.hx_pool.specs.declared.entries.Entry.TheVariants.{Open, Park, Take, Free, Close, Look, Up, Down, Count, Gate, SetGate, Round}
-use Rattle.hx_run.specs.Cares.{Care, Ordered, Ticked}
+use Rattle.hx_run.specs.Cares.{Care, Ordered, Ticked, drains_below}
 use Rattle.hx_cares.specs.Asked.{gate_asked, gate_set, gates_asked, gates_in, is_drain, round_made, rounds_asked, rounds_from, rounds_in}
 use Rattle.hx_cares.specs.Cared.{AllBy, Answers, Cared, Obeyed, Purged, asked_one, none_yet, session_made, interval_at, round_after, round_behind, round_from}
 
@@ -234,3 +234,30 @@ marks_asked server delay cares es c = (
       (λ (z : delay ≡ 0). never_rounds server delay cares es z c ∙ sym (ap (λ (b : Bool). if b then [] else rounds_from delay 0 cares) (eq-eqb delay 0 z)))
       (λ pos. (rounds_hold server delay cares es pos c).made ∙ sym (ap (λ (b : Bool). if b then [] else rounds_from delay 0 cares) (ne_eqb delay 0 pos))),
 )
+
+-- ---- the drains at the end
+
+one_gate : (server : ℕ) (care : Care) (cares : List Care) → gates_asked server (cares ++ care ∷ []) ≡ gates_asked server cares ++ gate_asked server care
+one_gate server care cares = flat_map-append (gate_asked server) cares (care ∷ []) ∙ ap (λ (l : List Bool). gates_asked server cares ++ l) (append-nil (gate_asked server care))
+
+none_below : (server n : ℕ) → n ≤ server → gates_asked server (drains_below n) ≡ []
+none_below server zero low = refl
+none_below server (suc n) low =
+    one_gate server (Ordered (Drain (record { 0 = n }))) (drains_below n)
+    ∙ (ap (λ (l : List Bool). l ++ gate_asked server (Ordered (Drain (record { 0 = n })))) (none_below server n (omega (arith, low)))
+    ∙ gate_elsewhere server (Drain (record { 0 = n })) (λ e. omega (arith, e, low)))
+
+one_below : (server n : ℕ) → server < n → gates_asked server (drains_below n) ≡ true ∷ []
+one_below server zero low = absurd (omega (arith, low))
+one_below server (suc n) low =
+    one_gate server (Ordered (Drain (record { 0 = n }))) (drains_below n)
+    ∙ dite (ℕ_discrete n server)
+    (λ (is : n ≡ server).
+    ap (λ (l : List Bool). l ++ gate_asked server (Ordered (Drain (record { 0 = n })))) (none_below server n (omega (arith, is)))
+    ∙ gate_here server (Drain (record { 0 = n })) is)
+    (λ ne.
+    ap (λ (l : List Bool). gates_asked server (drains_below n) ++ l) (gate_elsewhere server (Drain (record { 0 = n })) ne)
+    ∙ (append-nil (gates_asked server (drains_below n)) ∙ one_below server n (omega (arith, low, ne))))
+
+pub drained_last : (server n : ℕ) (cares : List Care) → server < n → gates_asked server (cares ++ drains_below n) ≡ gates_asked server cares ++ true ∷ []
+drained_last server n cares low = flat_map-append (gate_asked server) cares (drains_below n) ∙ ap (λ (l : List Bool). gates_asked server cares ++ l) (one_below server n low)

@@ -1,5 +1,5 @@
 -- The laws, as functions whose calls do nothing promise them.
-use Rattle.std.specs.Prelude.{◌≡◌, ℕ, List, Some, slice_get}
+use Rattle.std.specs.Prelude.{◌≡◌, ℕ, ◌<◌, true, List, [], ◌∷◌, ◌++◌, Some, slice_get}
 use Rattle.hx_base.specs.declared.numbers.Millis.{Millis}
 use Rattle.hx_base.specs.declared.plan.Plan.{Plan}
 use Rattle.hx_course.specs.Graves.{Grave}
@@ -10,7 +10,7 @@ use Rattle.hx_pool.specs.declared.entries.Entry.{Entry}
 use Rattle.hx_record.specs.declared.served.Told.{Told}
 use Rattle.hx_script_parts.specs.declared.script.ClientLine.{ClientLine}
 use Rattle.hx_worker.specs.Workers.{WorkerNow}
-use Rattle.hx_run.specs.Cares.{Care}
+use Rattle.hx_run.specs.Cares.{Care, drains_below}
 use Rattle.hx_run.specs.Turns.{Makes}
 use Rattle.hx_cares.specs.Asked.{gates_in, gates_asked, rounds_in, rounds_asked}
 use Rattle.hx_cares.specs.Cared.{Cared}
@@ -28,3 +28,9 @@ abbrev pub MarksAreAsked : Type 0
 MarksAreAsked =
     (server delay : ℕ) (cares : List Care) (es : List Entry) → Cared server delay cares es
     → (gates_in es ≡ gates_asked server cares) × (rounds_in es ≡ rounds_asked delay cares)
+
+-- where each of n servers is drained at the end, the last SetGate of each drains, and those before it are asked for before
+abbrev pub DrainsAreLast : Type 0
+DrainsAreLast =
+    (server n : ℕ) (cares : List Care) → server < n
+    → gates_asked server (cares ++ drains_below n) ≡ gates_asked server cares ++ true ∷ []
