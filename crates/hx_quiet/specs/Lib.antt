@@ -1,0 +1,3 @@
+pub use Rattle.hx_run.specs.Turns
+pub mod Stopped
+pub mod Laws
