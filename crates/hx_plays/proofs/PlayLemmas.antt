@@ -19,12 +19,14 @@ use Rattle.hx_script_parts.specs.declared.fault.Rule.TheVariants.{TooLong}
 use Rattle.hx_config.specs.Limits.{all_servers}
 use Rattle.hx_link.specs.Nets.{NetState}
 use Rattle.hx_record.specs.declared.served.Told.{Told}
+use Rattle.hx_run.specs.Cares.{all_cares}
 use Rattle.hx_run.specs.Courses.{MakesFewer}
 use Rattle.hx_run.specs.Overs.{AreOver, histories}
 use Rattle.hx_run.specs.Cares.{all_cares}
 use Rattle.hx_told.specs.CaredFor.{AreCaredFor}
 use Rattle.hx_told.specs.Caused.{CausedByScript}
 use Rattle.hx_told.specs.Follows.{FollowsScript}
+use Rattle.hx_told.specs.Quiet.{QuietByScript}
 use Rattle.hx_told.specs.Servers.{named_servers, parts_of}
 use Rattle.std.specs.Prelude.{IfOk}
 use Rattle.hx_base.specs.declared.numbers.NoMemory.{NoMemory}
@@ -56,26 +58,26 @@ over_ran a b seats e o = subst (λ (c : Config). AreOver (all_servers c.backs) s
 -- what is told of a replay that is over
 tells_of : (script : Script) (config : Config) (seats : List Journal) (t : Transcript) (text : List ℕ) (ends : Ends) → config ≡ script.config
     → AreOver (all_servers script.config.backs) seats → t.servers ≡ parts_of (named_servers config.backs) seats → IsTrueTranscript t ends
-    → FollowsScript script.clients script.plans ends t.clients t.conns → CausedByScript (meaning script) ends t → AreCaredFor (all_cares (meaning script)) 0 t.servers → Spells text t
+    → FollowsScript script.clients script.plans ends t.clients t.conns → CausedByScript (meaning script) ends t → QuietByScript (meaning script) t → AreCaredFor (all_cares (meaning script)) 0 t.servers → Spells text t
     → TellsServers (meaning script) text
-tells_of script config seats t text ends e o s a f b d p = record {
+tells_of script config seats t text ends e o s a f b q d p = record {
   transcript = t;
   spells = p;
   seats = seats;
   each = over_count (all_servers script.config.backs) seats o;
   servers = s ∙ ap (λ (c : Config). parts_of (named_servers c.backs) seats) e;
-  script_told = record { ends = ends; is_true = a; follows = f; causes = b; cared = d };
+  script_told = record { ends = ends; is_true = a; follows = f; causes = b; quiet = q; cared = d };
 }
 
 -- and of the replay that told it
 pub tells_run : (script : Script) (config : Config) (seats : List Journal) (t : Transcript) (text : List ℕ) (ends : Ends) (most : ℕ) (records : List Told) (net : NetState) → config ≡ script.config
     → AreOver (all_servers script.config.backs) seats → t.servers ≡ parts_of (named_servers config.backs) seats → IsTrueTranscript t ends
-    → FollowsScript script.clients script.plans ends t.clients t.conns → CausedByScript (meaning script) ends t → AreCaredFor (all_cares (meaning script)) 0 t.servers → Spells text t
+    → FollowsScript script.clients script.plans ends t.clients t.conns → CausedByScript (meaning script) ends t → QuietByScript (meaning script) t → AreCaredFor (all_cares (meaning script)) 0 t.servers → Spells text t
     → t.records ≡ records → MakesFewer (meaning script) most records net (histories seats)
     → (tells : TellsServers (meaning script) text) × EndsWithin (meaning script) most tells.transcript.records tells.seats
 unfolding tells_of
-tells_run script config seats t text ends most records net e o s a f b d p same m =
-    (tells_of script config seats t text ends e o s a f b d p, (net, subst (λ (l : List Told). MakesFewer (meaning script) most l net (histories seats)) (sym same) m))
+tells_run script config seats t text ends most records net e o s a f b q d p same m =
+    (tells_of script config seats t text ends e o s a f b q d p, (net, subst (λ (l : List Told). MakesFewer (meaning script) most l net (histories seats)) (sym same) m))
 
 at_flaw : (bytes : List ℕ) (line rule : ℕ) (f : Flaw) → meaning_of bytes ≡ Err f → fault.At line rule ≡ fault_of f → HasScriptFault bytes line rule
 at_flaw bytes line rule (flaw.Line l broken) e g =

@@ -18,24 +18,26 @@ use Rattle.hx_script_parts.specs.declared.fault.Rule.TheVariants.{BadWorker}
 use Rattle.hx_told.specs.CaredFor.{AreCaredFor}
 use Rattle.hx_told.specs.Caused.{CausedByScript}
 use Rattle.hx_told.specs.Follows.{FollowsScript}
+use Rattle.hx_told.specs.Quiet.{QuietByScript}
 use Rattle.hx_told.specs.Servers.{named_servers, parts_of}
 use Rattle.hx_plays.specs.declared.plays.Replay.{Replay}
 use Rattle.hx_plays.specs.declared.plays.Replay.TheVariants as replay
 
 -- of the transcript some connections count as ended: all that it tells is true, and its clients are those of the script's lines,
 -- one to one by moment and line, its connections followed the script's plans, only one whose plan has an end counts as ended, and each
--- record has its cause by the script; and the marks of each server show its orders, a drain at the end and its rounds: by moment and by line,
+-- record has its cause by the script; nothing was left to do for a session that was stopped; and the marks of each server show its orders, a drain at the end and its rounds: by moment and by line,
 -- each with what the caretaker closed behind it
 pub record TellsScript (script : Meaning) (t : Transcript) : Type 0 where
   pub ends : Ends
   pub is_true : IsTrueTranscript t ends
   pub follows : FollowsScript script.clients script.plans ends t.clients t.conns
   pub causes : CausedByScript script ends t
+  pub quiet : QuietByScript script t
   pub cared : AreCaredFor (all_cares script) 0 t.servers
 
 -- the text spells a transcript whose servers are those of the configuration, in order, by name and rules, each with the marks
 -- of one journal; and all that it tells is true and of the script's lines: each record, each range, each client and connection,
--- and each server's marks and totals, in whose history every connection that was opened is closed at the end
+-- and each server's marks and totals, in whose history every connection that was opened is closed at the end.
 pub record TellsServers (script : Meaning) (text : List ℕ) : Type 0 where
   pub transcript : Transcript
   pub spells : Spells text transcript

@@ -134,7 +134,7 @@ one_each n (line ∷ lines) (c ∷ clients) r among each =
     )
 
 -- the line of a plan
-line_at : (lines : List ClientLine) (k : ℕ) (p : Plan) → slice_get (map plan_of lines) k ≡ Some p → (line : ClientLine) × (slice_get lines k ≡ Some line) × (line.plan ≡ p)
+pub line_at : (lines : List ClientLine) (k : ℕ) (p : Plan) → slice_get (map plan_of lines) k ≡ Some p → (line : ClientLine) × (slice_get lines k ≡ Some line) × (line.plan ≡ p)
 line_at [] k p e = cc
 line_at (line ∷ lines) zero p e = (line, refl, some_same line.plan p e)
 line_at (line ∷ lines) (suc k) p e = line_at lines k p e

@@ -5,6 +5,7 @@ pub mod Ending
 pub mod Follows
 pub mod CaredFor
 pub mod Caused
+pub mod Quiet
 pub mod Names
 pub mod Overs
 pub mod Owned

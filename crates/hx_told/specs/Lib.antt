@@ -1,6 +1,7 @@
 pub mod Ends
 pub mod Follows
 pub mod Caused
+pub mod Quiet
 pub mod CaredFor
 pub mod Links
 pub mod Orders

@@ -13,6 +13,7 @@ ghost use Rattle.hx_told.specs.CaredFor.{AreCaredFor};
 ghost use Rattle.hx_told.specs.Caused.{CausedByScript};
 ghost use Rattle.hx_told.specs.Ends.{ends_of, EndsByPlan};
 ghost use Rattle.hx_told.specs.Follows.{FollowsScript};
+ghost use Rattle.hx_told.specs.Quiet.{QuietByScript};
 ghost use Rattle.hx_told.specs.Servers.{named_servers, parts_of, all_sums};
 ghost use Rattle.hx_told.specs.Telling.{TellsLinks};
 
@@ -104,6 +105,8 @@ pub fn tell_run(alloc: Global, ran: Ran) -> Result<Transcript, NoMemory>
         → IfOk result (λ t. FollowsScript lines plans (ends_of ran.net.links) t.clients t.conns) }
     ensures causes { (script : Meaning) (most : ℕ) → MakesFewer script most ran.records ran.net.state (histories ran.seats)
         → IfOk result (CausedByScript script (ends_of ran.net.links)) }
+    ensures quiet { (script : Meaning) (most : ℕ) → MakesFewer script most ran.records ran.net.state (histories ran.seats)
+        → IfOk result (QuietByScript script) }
     ensures cares { (script : Meaning) (most : ℕ) → MakesFewer script most ran.records ran.net.state (histories ran.seats)
         → IfOk result (λ t. AreCaredFor (all_cares script) 0 t.servers) }
     ensures servers { IfOk result (λ t. t.servers

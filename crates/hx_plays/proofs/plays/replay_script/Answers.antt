@@ -9,5 +9,5 @@ returns-in_ok-print_transcript-in-Ok c =
     let told = c.in_ok-told-in-Ok in
     tells_run c.args.script ran.config ran.seats told.told c.in_ok-print_transcript-in-Ok.field-0.items (ends_of ran.net.links) c.args.most ran.records ran.net.state c.in-Ok.ensures.config c.in-Ok.ensures.over
     told.ensures.servers told.ensures.is_true (told.ensures.plans c.args.script.clients c.args.script.plans c.in-Ok.ensures.plans) (told.ensures.causes (meaning c.args.script) c.args.most c.in-Ok.ensures.within)
-    (told.ensures.cares (meaning c.args.script) c.args.most c.in-Ok.ensures.within)
+    (told.ensures.quiet (meaning c.args.script) c.args.most c.in-Ok.ensures.within) (told.ensures.cares (meaning c.args.script) c.args.most c.in-Ok.ensures.within)
     c.in_ok-print_transcript-in-Ok.ensures told.ensures.records c.in-Ok.ensures.within

@@ -14,6 +14,7 @@ use Rattle.std.specs.Prelude.{IfOk}
 use Rattle.hx_told.proofs.CaredFor.{ok_cared}
 use Rattle.hx_told.proofs.Caused.{ok_caused}
 use Rattle.hx_told.proofs.Follows.{ok_follows}
+use Rattle.hx_told.proofs.Quiet.{ok_quiet}
 use Rattle.hx_told.proofs.Overs.{true_servers}
 use Rattle.hx_told.proofs.Truth.{ok_true, ok_ended}
 use Rattle.hx_told.proofs.tell.tell_run.Goals as goal
@@ -61,6 +62,14 @@ returns-clause-causes c = λ script most m.
     let links : TellsLinks c.args.ran.records c.args.ran.net clients conns =
     subst (λ (rs : List Told). TellsLinks rs c.args.ran.net clients conns) c.as_slice-3.ensures c.in_ok-links.ensures.links in
     ok_caused script most c.args.ran.net (histories c.args.ran.seats) c.args.ran.records clients conns c.put_together.result links c.in_ok-links.ensures.conns c.put_together.ensures.records c.put_together.ensures.clients c.put_together.ensures.conns m
+
+pub returns-clause-quiet : goal.returns-clause-quiet
+returns-clause-quiet c = λ script most m.
+    let clients : List ClientBytes = c.in_ok-links.links.clients.items in
+    let conns : List ConnBytes = c.in_ok-links.links.conns.items in
+    let links : TellsLinks c.args.ran.records c.args.ran.net clients conns =
+    subst (λ (rs : List Told). TellsLinks rs c.args.ran.net clients conns) c.as_slice-3.ensures c.in_ok-links.ensures.links in
+    ok_quiet script most c.args.ran.net (histories c.args.ran.seats) c.args.ran.records clients conns c.put_together.result links c.in_ok-links.ensures.conns c.put_together.ensures.records c.put_together.ensures.clients c.put_together.ensures.conns m
 
 pub returns-clause-cares : goal.returns-clause-cares
 returns-clause-cares c = λ script most m.
